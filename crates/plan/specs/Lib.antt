@@ -1,0 +1,5 @@
+pub mod Sizes
+pub mod Classes
+pub mod Need
+pub mod Plans
+pub mod Examples
