@@ -1,0 +1,5 @@
+pub mod Reply
+pub mod Render
+pub mod Growth
+pub mod Fair
+pub mod Reading
