@@ -1,0 +1,12 @@
+pub mod Back
+pub mod Behind
+pub mod Bytewise
+pub mod Cutting
+pub mod Ends
+pub mod Judging
+pub mod Laying
+pub mod Lined
+pub mod Listed
+pub mod Places
+pub mod Ranges
+pub mod Splitting

@@ -1,0 +1,9 @@
+pub mod Command
+pub mod Tokens
+pub mod Spans
+pub mod Numbers
+pub mod Words
+pub mod Reading
+pub mod Requests
+pub mod Lines
+pub mod Grammar
