@@ -1,0 +1,4 @@
+pub mod Growth
+pub mod Fnv
+pub mod Chains
+pub mod Keys

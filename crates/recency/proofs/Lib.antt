@@ -1,0 +1,5 @@
+pub mod Counts
+pub mod Columns
+pub mod Links
+pub mod Steps
+pub mod Known
