@@ -8,6 +8,8 @@ pub fn rule(refusal: Refusal) -> &'static str {
         Refusal::Plan =>
             "first size a multiple of 8 from 48 to 1024, percent 110 to 200, at most 32 classes",
         Refusal::Memory => "a table has 1 to 256 pages",
+        // the other refusals are of calls on a table
+        _ => "no rule of plans or pages",
     }
 }
 

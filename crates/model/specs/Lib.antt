@@ -1,0 +1,17 @@
+pub mod Setup
+pub mod Records
+pub mod Store
+pub mod Commands
+pub mod Calls
+pub mod Opening
+pub mod Stories
+pub mod Promises
+pub mod Reasons
+pub mod Scripts
+pub mod RunsOfGrants
+pub mod RunsOfFailures
+pub mod RunsOfUses
+pub mod RunsOfTime
+pub mod RunsOfSessions
+pub mod Runs
+pub mod Examples
