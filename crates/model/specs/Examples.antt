@@ -12,6 +12,7 @@ use Rattle.refusals.specs.declared.Refusal.{Refusal}
 use Rattle.refusals.specs.Numbers.{number-of}
 use Rattle.plan.specs.Examples.{all-true, same-class as same-option, same-sizes as same-numbers}
 use Rattle.model.specs.Records.{Record, expiry-of, dead-at}
+use Rattle.chained.specs.Fnv.{fnv}
 use Rattle.chained.specs.Growth.{grow-after}
 use Rattle.model.specs.Store.{everything}
 use Rattle.model.specs.Calls.{State, after, empty, refuse-request}
@@ -179,6 +180,8 @@ examples =
     -- the last request that is answered, and the first that is not
     ∷ eqb (number-after (2 ^ 60 - 1)) 0
     ∷ eqb (number-after (2 ^ 60)) 10
+    -- the hash of the key `a`
+    ∷ eqb (fnv (codes "a")) 0xE40C292C
     -- openings: the plan is judged first; then whole pages, 85 rows a page, and a power of two of slots
     ∷ eqb (opening-number 96 125 16384 340 512) 0
     ∷ eqb (opening-number 48 110 0 0 0) 1
