@@ -1,0 +1,5 @@
+pub mod Callers
+pub mod Kept
+pub mod Laying
+pub mod Sweeps
+pub mod Shown

@@ -1,0 +1,5 @@
+pub mod Rows
+pub mod Orders
+pub mod Rosters
+pub mod Admissions
+pub mod Showing
