@@ -1,0 +1,13 @@
+pub mod Reading
+pub mod Families
+pub mod Cuts
+pub mod Placing
+pub mod Sounds
+pub mod Ends
+pub mod Bytes
+pub mod Telling
+pub mod Stocking
+pub mod Pages
+pub mod Opening
+pub mod Shifts
+pub mod Walks
