@@ -18,21 +18,11 @@ use Rattle.std.proofs.shelf.Sums.{sumBy-set, getD-le-sumBy}
 use Rattle.std.proofs.shelf.Tests.{cases-eq, cases-lt, ltb-true, cond-both}
 use native.Mathlib.Nat.{add-mul}
 use Rattle.plan.specs.Classes.{size-at, chunks-of}
+pub use Rattle.model.specs.Sound.{Sound, Numbered}
 use Rattle.model.specs.Setup.{Setup, chunks}
 use Rattle.model.specs.Records.{Key, Record, has-key, other-key, class-no, class-for, moved-at, expiring}
 use Rattle.model.specs.Store.{Class, Store, bare, class-at, with-records, with-page, everything, records-of, held, first, aged, has-room}
 use Rattle.model.proofs.Held.{On, here, there, count, count-cons, count-some, count-kept, count-joined, length-joined, first-on, first-none, none-first, only-one, on-joined, joined-on, all-on, same-key, key-is, count-other, length-other}
-
-pub record Sound (setup : Setup) (ks : List Class) : Type 0 where
-  pub size : length ks ≡ length (setup .sizes)
-  pub homes : (class : ℕ) → 1 ≤ class → All (λ r. class-no setup r ≡ class) (class-at class ks .records)
-  pub once : (key : Key) → count (has-key key) (joined records-of ks) ≤ 1
-  pub fits : (class : ℕ) → 1 ≤ class → length (class-at class ks .records) ≤ chunks setup class (class-at class ks .pages)
-
--- the number of a class that there is
-pub record Numbered (setup : Setup) (class : ℕ) : Type 0 where
-  pub low : 1 ≤ class
-  pub high : class ≤ length (setup .sizes)
 
 -- CHANGING ONE CLASS
 

@@ -1,6 +1,7 @@
 pub mod Setup
 pub mod Records
 pub mod Store
+pub mod Sound
 pub mod Commands
 pub mod Calls
 pub mod Opening
