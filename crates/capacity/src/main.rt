@@ -1,5 +1,6 @@
 // How many pages a table needs for the records that a customer has.
 mod arguments;
+mod columns;
 mod kinds;
 mod tables;
 mod words;
@@ -10,6 +11,7 @@ use refusals::Refusal;
 use sizing::Tally;
 use sizing::pages_given;
 use std::error::AnyError;
+use std::io;
 use std::io::BufWriter;
 use std::io::Write;
 use words::rule;
@@ -31,6 +33,17 @@ fn refused(rt: &LibcRuntime, refusal: Refusal) -> Result<AnyError, AnyError> {
     Ok(format!(rt.alloc(), "refused with number {number}: {rule}")?.into())
 }
 
+// Writes the tables, and reads the kinds of records on the way.
+fn write_tables(rt: &LibcRuntime, asked: &Asked, plan: Plan, pages: u64) -> io::Result<()> {
+    let mut out = BufWriter::new(rt.stdout());
+    tables::write_plan(&mut out, &plan, asked)?;
+    let mut tally = Tally::new(plan);
+    let left_out = kinds::read(rt, &mut out, &mut tally)?;
+    tables::write_classes(&mut out, &plan, &tally)?;
+    tables::write_account(&mut out, &tally, pages, left_out)?;
+    out.flush()
+}
+
 fn run(rt: &LibcRuntime) -> Result<(), AnyError> {
     let asked = arguments::read(rt)?;
     let plan = match plan_of(&asked) {
@@ -41,14 +54,7 @@ fn run(rt: &LibcRuntime) -> Result<(), AnyError> {
         Ok(pages) => pages,
         Err(refusal) => return Err(refused(rt, refusal)?),
     };
-    let mut out = BufWriter::new(rt.stdout());
-    tables::write_plan(&mut out, &plan, &asked)?;
-    let mut tally = Tally::new(plan);
-    let left_out = kinds::read(rt, &mut out, &mut tally)?;
-    tables::write_classes(&mut out, &plan, &tally)?;
-    tables::write_account(&mut out, &tally, pages, left_out)?;
-    out.flush()?;
-    Ok(())
+    Ok(write_tables(rt, &asked, plan, pages)?)
 }
 
 fn main(rt: LibcRuntime) -> Result<(), AnyError> {

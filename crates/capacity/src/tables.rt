@@ -1,8 +1,10 @@
 // The tables before and after the kinds of records.
 use crate::arguments::Asked;
+use crate::columns::write_cells;
 use crate::kinds::LeftOut;
 use plan::Plan;
 use sizing::Account;
+use sizing::Load;
 use sizing::Tally;
 use std::io;
 use std::io::BufWriter;
@@ -15,21 +17,28 @@ pub fn write_plan(out: &mut BufWriter<Stdout>, plan: &Plan, asked: &Asked) -> io
     let classes = plan.classes();
     writeln!(
         out,
-        "The plan of first size {first} and percent {percent}: {classes} classes."
+        "The plan of first size {first} and percent {percent}: {classes} classes.\n"
     )?;
-    writeln!(out, "")?;
-    writeln!(
-        out,
-        "{:>8}  {:>10}  {:>13}  {:>9}",
-        "class", "chunk size", "chunks a page", "left over"
-    )?;
+    writeln!(out, "   class  chunk size  chunks a page  left over")?;
     for i in 0..classes {
-        let class = i + 1;
-        let size = plan.size(class).unwrap_or(0);
-        let chunks = plan.chunks_per_page(class).unwrap_or(0);
-        let left = plan.left_over(class).unwrap_or(0);
-        writeln!(out, "{class:>8}  {size:>10}  {chunks:>13}  {left:>9}")?;
+        write_class(out, plan, i + 1)?;
     }
+    writeln!(out, "")
+}
+
+fn write_class(out: &mut BufWriter<Stdout>, plan: &Plan, class: usize) -> io::Result<()> {
+    let size = plan.size(class).unwrap_or(0);
+    let chunks = plan.chunks_per_page(class).unwrap_or(0);
+    let left = plan.left_over(class).unwrap_or(0);
+    write_cells(
+        out,
+        &[
+            (class as u128, 8),
+            (size as u128, 12),
+            (chunks as u128, 15),
+            (left as u128, 11),
+        ],
+    )?;
     writeln!(out, "")
 }
 
@@ -37,27 +46,32 @@ pub fn write_plan(out: &mut BufWriter<Stdout>, plan: &Plan, asked: &Asked) -> io
 pub fn write_classes(out: &mut BufWriter<Stdout>, plan: &Plan, tally: &Tally) -> io::Result<()> {
     writeln!(
         out,
-        "{:>8}  {:>20}  {:>22}  {:>20}  {:>8}",
-        "class", "records", "chunks", "pages", "filled"
+        "   class               records                  chunks                 pages    filled"
     )?;
     for i in 0..plan.classes() {
         let class = i + 1;
-        let Some(load) = tally.load(class) else {
-            continue;
-        };
-        let records = load.records;
-        if records > 0 {
-            let chunks = load.chunks;
-            let pages = load.pages;
-            let whole = load.share / 10;
-            let tenth = load.share % 10;
-            writeln!(
-                out,
-                "{class:>8}  {records:>20}  {chunks:>22}  {pages:>20}  {whole:>4}.{tenth} %"
-            )?;
+        if let Some(load) = tally.load(class) {
+            if load.records > 0 {
+                write_load(out, class, load)?;
+            }
         }
     }
     writeln!(out, "")
+}
+
+fn write_load(out: &mut BufWriter<Stdout>, class: usize, load: Load) -> io::Result<()> {
+    write_cells(
+        out,
+        &[
+            (class as u128, 8),
+            (load.records as u128, 22),
+            (load.chunks, 24),
+            (load.pages, 22),
+            (load.share / 10, 6),
+        ],
+    )?;
+    let tenth = load.share % 10;
+    writeln!(out, ".{tenth} %")
 }
 
 pub fn write_account(
@@ -67,25 +81,30 @@ pub fn write_account(
     left_out: LeftOut,
 ) -> io::Result<()> {
     let needed = tally.pages_in_all();
-    writeln!(out, "Pages needed: {needed}")?;
-    writeln!(out, "Pages given: {pages}")?;
-    match tally.account(pages) {
+    writeln!(out, "Pages needed: {needed}\nPages given: {pages}")?;
+    let missing = needed.saturating_sub(pages as u128);
+    write_verdict(out, tally.account(pages), missing)?;
+    let too_large = left_out.too_large;
+    let lines = left_out.lines;
+    writeln!(
+        out,
+        "Kinds of records too large for any chunk: {too_large}\nLines left out: {lines}"
+    )
+}
+
+fn write_verdict(out: &mut BufWriter<Stdout>, account: Account, missing: u128) -> io::Result<()> {
+    match account {
         Account::Holds { spare } => {
             writeln!(
                 out,
                 "The pages given hold every record above that has a class, with nothing pushed out; {spare} to spare."
-            )?
+            )
         }
         Account::Short { class, lacks } => {
-            let missing = needed.saturating_sub(pages as u128);
             writeln!(
                 out,
                 "The pages given do not suffice, {missing} are missing: class {class} is the first that is short, by {lacks}."
-            )?
+            )
         }
     }
-    let too_large = left_out.too_large;
-    writeln!(out, "Kinds of records too large for any chunk: {too_large}")?;
-    let lines = left_out.lines;
-    writeln!(out, "Lines left out: {lines}")
 }
