@@ -10,14 +10,11 @@ use Rattle.std.specs.declared.vec.Vec.{Vec}
 use Rattle.std.specs.declared.alloc.Global.{Global}
 use Rattle.std.proofs.shelf.Lists.{getD-past}
 use Rattle.std.proofs.shelf.Tests.{cases-lt}
-use Rattle.recency.specs.Lists.{Listed}
 use Rattle.recency.proofs.Columns.{column-of-rest}
 use Rattle.slab.specs.declared.row.Row.{Row}
 use Rattle.slab.specs.declared.slab.Slab.{Slab}
-use Rattle.slab.specs.Rows.{homes, RowsRead}
-use Rattle.slab.specs.Lists.{Family}
-use Rattle.slab.specs.Slabs.{Sound, Lists, rows-of, homes-of, spans-of, layout}
-use Rattle.slab.proofs.Telling.{sound-same}
+use Rattle.slab.specs.Slabs.{Sound, Lists, rows-of, homes-of, layout}
+use Rattle.slab.proofs.Shifts.{lists-rechained, sound-rechained}
 
 -- a row without its place in its chain
 abbrev pub unchained : Row → Row
@@ -31,15 +28,12 @@ module _ (s t : Slab) (rest : map unchained (rows-of t) ≡ map unchained (rows-
   homes-same = column (λ row. row .home) (λ _. refl)
 
   pub lists-same : (ls : ℕ → List ℕ) → Lists s ls → Lists t ls
-  lists-same ls f =
-      let nexts = column (λ row. row .next) (λ _. refl) in
-      let prevs = column (λ row. row .prev) (λ _. refl) in
-      subst (λ ks. Family ks (rows-of t) ls) (sym classes)
-      (record {
-        named = λ h i pos. rw homes-same (f .named h i pos);
-        reads = λ class stand lt. rw (nexts, prevs) (f .reads class stand lt);
-        counted = f .counted;
-      })
+  lists-same = lists-rechained s t classes (column (λ row. row .next) (λ _. refl)) (column (λ row. row .prev) (λ _. refl)) homes-same
+
+  pub sound-same : layout t ≡ layout s → Sound s → Sound t
+  sound-same same =
+      sound-rechained s t classes (column (λ row. row .next) (λ _. refl)) (column (λ row. row .prev) (λ _. refl)) homes-same same
+      (column (λ row. row .«key_len») (λ _. refl)) (column (λ row. row .«data_len») (λ _. refl))
 
 -- a row that names a list is a row
 pub within : (xs : List ℕ) (i : ℕ) → 0 < getD xs i 0 → i < length xs
@@ -50,8 +44,4 @@ abbrev pub with-rows : Slab → Vec Row Global → Slab
 with-rows s v = record { rows = v; classes = s .classes; owners = s .owners; given = s .given; pages = s .pages }
 
 pub sound-chained : (s : Slab) (v : Vec Row Global) → map unchained (vec-items v) ≡ map unchained (rows-of s) → Sound s → Sound (with-rows s v)
-sound-chained s v rest sound =
-    let t = with-rows s v in
-    sound-same s t (lists-same s t rest refl) (homes-same s t rest refl) refl
-    (λ j. ap (λ c. getD c j 0) (column s t rest refl (λ row. row .«key_len» + row .«data_len») (λ _. refl)))
-    sound
+sound-chained s v rest = sound-same s (with-rows s v) rest refl refl

@@ -15,6 +15,7 @@ use Rattle.slab.specs.declared.row.Row.{Row}
 use Rattle.slab.specs.Rows.{blank}
 use Rattle.slab.specs.Lists.{held-of, free-of, granted-of, shift, to-front, into, out-of}
 use Rattle.slab.specs.Layouts.{Layout, start}
+use Rattle.slab.proofs.Shifts.{shift-off, shift-from, shift-to, front-there, front-off}
 use Rattle.model.specs.Setup.{Setup}
 use Rattle.model.specs.Records.{Key, Record, has-key, other-key, moved-at, expiring}
 use Rattle.model.specs.Store.{Class, class-at, with-records, records-of, aged}
@@ -23,23 +24,6 @@ use Rattle.model.proofs.Sound.{Sound, Numbered, at-same, at-other, in-range}
 use Rattle.records.specs.Reading.{record-of, record-at, shown-class, ShowsClasses}
 use Rattle.model.proofs.Truth.{class-few}
 use Rattle.records.proofs.Maps.{map-same, map-without, map-aged, on-without, on-counted, counted-on}
-
--- a condition that fails, or holds
-pub not-eq : {A : Type 0} (a b : ℕ) (x y : A) → (a ≡ b → ⊥) → cond (eqb a b) x y ≡ y
-not-eq a b x y ne = rw (ne-eqb a b ne)
-
-pub is-eq : {A : Type 0} (a : ℕ) (x y : A) → cond (eqb a a) x y ≡ x
-is-eq a x y = rw (eq-eqb a a refl)
-
--- the lists of records after a shift from one of a class's lists to another
-pub shift-other : (i from to : ℕ) (lists : ℕ → List ℕ) (h : ℕ) → (h ≡ from → ⊥) → (h ≡ to → ⊥) → shift i from to lists h ≡ lists h
-shift-other i from to lists h nf nt = not-eq h to _ _ nt ∙ not-eq h from _ _ nf
-
-pub shift-from : (i from to : ℕ) (lists : ℕ → List ℕ) → (from ≡ to → ⊥) → shift i from to lists from ≡ rows.without i (lists from)
-shift-from i from to lists ne = not-eq from to _ _ ne ∙ is-eq from _ _
-
-pub shift-to : (i from to : ℕ) (lists : ℕ → List ℕ) → (to ≡ from → ⊥) → shift i from to lists to ≡ i ∷ lists to
-shift-to i from to lists ne = is-eq to _ _ ∙ ap (λ l. i ∷ l) (not-eq to from _ _ ne)
 
 -- what a row tells of its record: all but its links, its list and its place in its chain
 abbrev pub told : Row → Row
@@ -94,7 +78,7 @@ module _ (setup : Setup) (ks : List Class) (sound : Sound setup ks) (class : ℕ
         let agree : (xs : List ℕ) → map read′ xs ≡ map read xs = λ xs. map-same read′ read xs (λ k _. same-records l rs rs′ pages same k) in
         turned l rs rs′ pages pages lists (shift i (held-of class) (free-of class) lists) (kept-by (other-key (read i .key)) (class-at class ks .records)) shown
         (ap (map read′) (shift-from i (held-of class) (free-of class) lists (λ e. omega arith)) ∙ agree (rows.without i ids) ∙ map-without read i ids at keys-once ∙ ap (kept-by (other-key (read i .key))) (sym records-are))
-        (λ d ne. ap (map read′) (shift-other i (held-of class) (free-of class) lists (held-of d) (λ e. ne (omega arith)) (λ e. omega arith)) ∙ agree (lists (held-of d)))
+        (λ d ne. ap (map read′) (shift-off i (held-of class) (free-of class) lists (λ e. omega arith) (held-of d) (λ e. ne (omega arith)) (λ e. omega arith)) ∙ agree (lists (held-of d)))
 
     -- a record moves to the front of its class, and its row has the second
     pub shows-moved : (i : ℕ) → On i ids → (now : ℕ) (rs′ : List Row) → record-at l rs′ pages i ≡ moved-at now (read i) → ((k : ℕ) → (k ≡ i → ⊥) → record-at l rs′ pages k ≡ read k) → ShowsClasses setup l rs′ pages (to-front i (held-of class) lists) (with-records class (moved-at now (read i) ∷ kept-by (other-key (read i .key)) (class-at class ks .records)) ks)
@@ -102,10 +86,10 @@ module _ (setup : Setup) (ks : List Class) (sound : Sound setup ks) (class : ℕ
         let read′ = record-at l rs′ pages in
         let others = rows.without i ids in
         turned l rs rs′ pages pages lists (to-front i (held-of class) lists) (moved-at now (read i) ∷ kept-by (other-key (read i .key)) (class-at class ks .records)) shown
-        (ap (map read′) (is-eq (held-of class) (i ∷ others) ids)
+        (ap (map read′) (front-there i (held-of class) lists)
         ∙ ap (λ r. r ∷ map read′ others) here-is
         ∙ ap (λ xs. moved-at now (read i) ∷ xs) (map-same read′ read others (λ k o. other k (on-without o .1)) ∙ map-without read i ids at keys-once ∙ ap (kept-by (other-key (read i .key))) (sym records-are)))
-        (λ d ne. ap (map read′) (not-eq (held-of d) (held-of class) _ _ (λ e. ne (omega arith))) ∙ map-same read′ read (lists (held-of d)) (λ k o. other k (apart d ne k o)))
+        (λ d ne. ap (map read′) (front-off i (held-of class) lists (held-of d) (λ e. ne (omega arith))) ∙ map-same read′ read (lists (held-of d)) (λ k o. other k (apart d ne k o)))
       where
         apart : (d : ℕ) → (d ≡ class → ⊥) → (k : ℕ) → On k (lists (held-of d)) → k ≡ i → ⊥
         apart d ne k o e = ne (alone d class i (subst (λ n. On n (lists (held-of d))) e o) at)
@@ -126,4 +110,4 @@ module _ (setup : Setup) (ks : List Class) (sound : Sound setup ks) (class : ℕ
         (ap (map read′) (shift-to i (granted-of class) (held-of class) lists (λ e. omega arith))
         ∙ ap (λ x. x ∷ map read′ ids) here-is
         ∙ ap (λ xs. r ∷ xs) (map-same read′ read ids (λ k o. other class k o) ∙ sym records-are))
-        (λ d ne. ap (map read′) (shift-other i (granted-of class) (held-of class) lists (held-of d) (λ e. omega arith) (λ e. ne (omega arith))) ∙ map-same read′ read (lists (held-of d)) (λ k o. other d k o))
+        (λ d ne. ap (map read′) (shift-off i (granted-of class) (held-of class) lists (λ e. omega arith) (held-of d) (λ e. omega arith) (λ e. ne (omega arith))) ∙ map-same read′ read (lists (held-of d)) (λ k o. other d k o))
