@@ -18,13 +18,13 @@ use Rattle.slab.specs.Rows.{blank, rest, rests}
 use Rattle.slab.specs.Lists.{held-of, to-front}
 use Rattle.slab.specs.Layouts.{Layout, class-at, start}
 use Rattle.slab.specs.Slabs.{Lists, Holds, Reordered, rows-of, homes-of, layout}
-use Rattle.slab.specs.Records.{Retagged, key-lens, data-lens, tags}
+use Rattle.slab.specs.Records.{bytes-at, Retagged, key-lens, data-lens, tags}
 use Rattle.model.specs.Setup.{Setup}
 use Rattle.model.specs.Records.{Record, class-no, other-key, moved-at, expiring}
 use Rattle.model.specs.Store as model
 use Rattle.model.specs.Store.{Class}
 use Rattle.model.proofs.Sound.{Sound, Numbered, sound-front, sound-aged}
-use Rattle.records.specs.Reading.{bytes-at, record-at, with-front, with-expiry, ShowsClasses}
+use Rattle.records.specs.Reading.{record-at, with-front, with-expiry, ShowsClasses}
 use Rattle.records.specs.Showing.{Cut, ShowsRecords}
 use Rattle.records.proofs.Turns.{told, same-records, shows-moved, shows-aged}
 use Rattle.records.proofs.Leaving.{alone, class, record-here, num, row-on, home, lives-here}

@@ -2,20 +2,17 @@
 use Prim.Native.Nat.{ℕ, _+_, _≤_}
 use mathlib.Core.List.{List, _∷_, map}
 use mathlib.Core.Path.{_≡_}
-use lib.ListN.{length, getD, take, drop}
+use lib.ListN.{length, getD}
 use Rattle.std.specs.declared.option.Option.{Option}
 use Rattle.slab.specs.declared.row.Row.{Row}
 use Rattle.slab.specs.Rows.{blank}
 use Rattle.slab.specs.Lists.{held-of}
 use Rattle.slab.specs.Layouts.{Layout, start}
+use Rattle.slab.specs.Records.{bytes-at}
 use Rattle.model.specs.Setup.{Setup}
 use Rattle.std.specs.shelf.Lists.{kept-by}
 use Rattle.model.specs.Records.{Record, class-no, other-key, moved-at}
 use Rattle.model.specs.Store.{Class, class-at, with-records, aged}
-
--- so many bytes of page memory from a place on
-abbrev pub bytes-at : List ℕ → ℕ → ℕ → List ℕ
-bytes-at pages at n = take n (drop at pages)
 
 -- the record of a row whose chunk begins at a place: the key's bytes, and then the data's
 abbrev pub record-of : Row → ℕ → List ℕ → Record
