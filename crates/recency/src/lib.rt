@@ -49,9 +49,9 @@ impl RecencyList {
         requires within { (at ≢ none) → at < length rows.old }
         ensures front { self.new.front ≡ (if nat_eq at none then to else self.old.front) }
         ensures back { self.new.back ≡ self.old.back }
-        ensures aimed { map next_of rows.new ≡ slice_set (map next_of rows.old) at to }
-        ensures other { map prev_of rows.new ≡ map prev_of rows.old }
-        ensures rest { map bare rows.new ≡ map bare rows.old }
+        ensures aimed { map R.next_of rows.new ≡ slice_set (map R.next_of rows.old) at to }
+        ensures other { map R.prev_of rows.new ≡ map R.prev_of rows.old }
+        ensures rest { map R.bare rows.new ≡ map R.bare rows.old }
     {
         if at == NONE {
             self.front = to;
@@ -66,9 +66,9 @@ impl RecencyList {
         requires within { (at ≢ none) → at < length rows.old }
         ensures back { self.new.back ≡ (if nat_eq at none then to else self.old.back) }
         ensures front { self.new.front ≡ self.old.front }
-        ensures aimed { map prev_of rows.new ≡ slice_set (map prev_of rows.old) at to }
-        ensures other { map next_of rows.new ≡ map next_of rows.old }
-        ensures rest { map bare rows.new ≡ map bare rows.old }
+        ensures aimed { map R.prev_of rows.new ≡ slice_set (map R.prev_of rows.old) at to }
+        ensures other { map R.next_of rows.new ≡ map R.next_of rows.old }
+        ensures rest { map R.bare rows.new ≡ map R.bare rows.old }
     {
         if at == NONE {
             self.back = to;
@@ -84,9 +84,9 @@ impl RecencyList {
         requires behind { (behind ≢ none) → behind < length rows.old }
         ensures front { self.new.front ≡ (if nat_eq ahead none then behind else self.old.front) }
         ensures back { self.new.back ≡ (if nat_eq behind none then ahead else self.old.back) }
-        ensures nexts { map next_of rows.new ≡ slice_set (map next_of rows.old) ahead behind }
-        ensures prevs { map prev_of rows.new ≡ slice_set (map prev_of rows.old) behind ahead }
-        ensures rest { map bare rows.new ≡ map bare rows.old }
+        ensures nexts { map R.next_of rows.new ≡ slice_set (map R.next_of rows.old) ahead behind }
+        ensures prevs { map R.prev_of rows.new ≡ slice_set (map R.prev_of rows.old) behind ahead }
+        ensures rest { map R.bare rows.new ≡ map R.bare rows.old }
     {
         self.aim_next(rows, ahead, behind);
         self.aim_prev(rows, behind, ahead);
@@ -119,11 +119,11 @@ impl RecencyList {
     /// Puts a row that is not in the list at its front.
     pub fn push_front<R: Linked>(&mut self, rows: &mut [R], i: u32)
         requires within { i < length rows.old }
-        requires outside { ∥ ((ids : List ℕ) × Reads next_of prev_of self.old rows.old ids × (count i ids ≡ 0)) ∥₁ }
-        ensures listed { (ids : List ℕ) → Reads next_of prev_of self.old rows.old ids → count i ids ≡ 0 → Reads next_of prev_of self.new rows.new (i ∷ ids) }
-        ensures rest { map bare rows.new ≡ map bare rows.old }
-        ensures outside { (ids : List ℕ) → Reads next_of prev_of self.old rows.old ids → (k : ℕ) (d : R) → count k (i ∷ ids) ≡ 0 → slice_index_or rows.new k d ≡ slice_index_or rows.old k d }
-        ensures others { (ids : List ℕ) → Reads next_of prev_of self.old rows.old ids → (other : RecencyList) (mine : List ℕ) → Reads next_of prev_of other rows.old mine → Apart (i ∷ ids) mine → Reads next_of prev_of other rows.new mine }
+        requires outside { ∥ ((ids : List ℕ) × Reads R.next_of R.prev_of self.old rows.old ids × (count i ids ≡ 0)) ∥₁ }
+        ensures listed { (ids : List ℕ) → Reads R.next_of R.prev_of self.old rows.old ids → count i ids ≡ 0 → Reads R.next_of R.prev_of self.new rows.new (i ∷ ids) }
+        ensures rest { map R.bare rows.new ≡ map R.bare rows.old }
+        ensures outside { (ids : List ℕ) → Reads R.next_of R.prev_of self.old rows.old ids → (k : ℕ) (d : R) → count k (i ∷ ids) ≡ 0 → slice_index_or rows.new k d ≡ slice_index_or rows.old k d }
+        ensures others { (ids : List ℕ) → Reads R.next_of R.prev_of self.old rows.old ids → (other : RecencyList) (mine : List ℕ) → Reads R.next_of R.prev_of other rows.old mine → Apart (i ∷ ids) mine → Reads R.next_of R.prev_of other rows.new mine }
     {
         let old = self.front;
         self.join(rows, i, old);
@@ -133,11 +133,11 @@ impl RecencyList {
     /// Takes a row out of the list.
     pub fn unlink<R: Linked>(&mut self, rows: &mut [R], i: u32)
         requires within { i < length rows.old }
-        requires inside { ∥ ((ids : List ℕ) × Reads next_of prev_of self.old rows.old ids × (count i ids ≡ 1)) ∥₁ }
-        ensures listed { (ids : List ℕ) → Reads next_of prev_of self.old rows.old ids → count i ids ≡ 1 → Reads next_of prev_of self.new rows.new (without i ids) }
-        ensures rest { map bare rows.new ≡ map bare rows.old }
-        ensures outside { (ids : List ℕ) → Reads next_of prev_of self.old rows.old ids → count i ids ≡ 1 → (k : ℕ) (d : R) → count k ids ≡ 0 → slice_index_or rows.new k d ≡ slice_index_or rows.old k d }
-        ensures others { (ids : List ℕ) → Reads next_of prev_of self.old rows.old ids → count i ids ≡ 1 → (other : RecencyList) (mine : List ℕ) → Reads next_of prev_of other rows.old mine → Apart ids mine → Reads next_of prev_of other rows.new mine }
+        requires inside { ∥ ((ids : List ℕ) × Reads R.next_of R.prev_of self.old rows.old ids × (count i ids ≡ 1)) ∥₁ }
+        ensures listed { (ids : List ℕ) → Reads R.next_of R.prev_of self.old rows.old ids → count i ids ≡ 1 → Reads R.next_of R.prev_of self.new rows.new (without i ids) }
+        ensures rest { map R.bare rows.new ≡ map R.bare rows.old }
+        ensures outside { (ids : List ℕ) → Reads R.next_of R.prev_of self.old rows.old ids → count i ids ≡ 1 → (k : ℕ) (d : R) → count k ids ≡ 0 → slice_index_or rows.new k d ≡ slice_index_or rows.old k d }
+        ensures others { (ids : List ℕ) → Reads R.next_of R.prev_of self.old rows.old ids → count i ids ≡ 1 → (other : RecencyList) (mine : List ℕ) → Reads R.next_of R.prev_of other rows.old mine → Apart ids mine → Reads R.next_of R.prev_of other rows.new mine }
     {
         let ahead = rows[i as usize].prev();
         let behind = rows[i as usize].next();
@@ -147,11 +147,11 @@ impl RecencyList {
     /// Moves a row of the list to its front.
     pub fn move_to_front<R: Linked>(&mut self, rows: &mut [R], i: u32)
         requires within { i < length rows.old }
-        requires inside { ∥ ((ids : List ℕ) × Reads next_of prev_of self.old rows.old ids × (count i ids ≡ 1)) ∥₁ }
-        ensures listed { (ids : List ℕ) → Reads next_of prev_of self.old rows.old ids → count i ids ≡ 1 → Reads next_of prev_of self.new rows.new (i ∷ without i ids) }
-        ensures rest { map bare rows.new ≡ map bare rows.old }
-        ensures outside { (ids : List ℕ) → Reads next_of prev_of self.old rows.old ids → count i ids ≡ 1 → (k : ℕ) (d : R) → count k ids ≡ 0 → slice_index_or rows.new k d ≡ slice_index_or rows.old k d }
-        ensures others { (ids : List ℕ) → Reads next_of prev_of self.old rows.old ids → count i ids ≡ 1 → (other : RecencyList) (mine : List ℕ) → Reads next_of prev_of other rows.old mine → Apart ids mine → Reads next_of prev_of other rows.new mine }
+        requires inside { ∥ ((ids : List ℕ) × Reads R.next_of R.prev_of self.old rows.old ids × (count i ids ≡ 1)) ∥₁ }
+        ensures listed { (ids : List ℕ) → Reads R.next_of R.prev_of self.old rows.old ids → count i ids ≡ 1 → Reads R.next_of R.prev_of self.new rows.new (i ∷ without i ids) }
+        ensures rest { map R.bare rows.new ≡ map R.bare rows.old }
+        ensures outside { (ids : List ℕ) → Reads R.next_of R.prev_of self.old rows.old ids → count i ids ≡ 1 → (k : ℕ) (d : R) → count k ids ≡ 0 → slice_index_or rows.new k d ≡ slice_index_or rows.old k d }
+        ensures others { (ids : List ℕ) → Reads R.next_of R.prev_of self.old rows.old ids → count i ids ≡ 1 → (other : RecencyList) (mine : List ℕ) → Reads R.next_of R.prev_of other rows.old mine → Apart ids mine → Reads R.next_of R.prev_of other rows.new mine }
     {
         if self.front != i {
             self.unlink(rows, i);
@@ -170,7 +170,7 @@ fn row_at(number: u32) -> Option<u32>
 /// The row ahead of a row of a list, towards the front, if there is one.
 pub fn ahead_of<R: Linked>(rows: &[R], i: u32) -> Option<u32>
     requires { i < length rows.now }
-    ensures { (list : RecencyList) (a b : List ℕ) → Reads next_of prev_of list rows.now (a ++ i ∷ b) → result ≡ rearmost a }
+    ensures { (list : RecencyList) (a b : List ℕ) → Reads R.next_of R.prev_of list rows.now (a ++ i ∷ b) → result ≡ rearmost a }
 {
     let ahead = rows[i as usize].prev();
     row_at(ahead)
@@ -179,7 +179,7 @@ pub fn ahead_of<R: Linked>(rows: &[R], i: u32) -> Option<u32>
 /// The row behind a row of a list, towards the back, if there is one.
 pub fn behind<R: Linked>(rows: &[R], i: u32) -> Option<u32>
     requires { i < length rows.now }
-    ensures { (list : RecencyList) (a b : List ℕ) → Reads next_of prev_of list rows.now (a ++ i ∷ b) → result ≡ foremost b }
+    ensures { (list : RecencyList) (a b : List ℕ) → Reads R.next_of R.prev_of list rows.now (a ++ i ∷ b) → result ≡ foremost b }
 {
     let behind = rows[i as usize].next();
     row_at(behind)
