@@ -12,4 +12,4 @@ returns g c list a b l =
     let next = map g.R.Linked.next_of rows in
     let prev = map g.R.Linked.prev_of rows in
     let e = link_is g.R.Linked.next_of rows i c.next-behind.result c.index-rows-i.result c.requires (c.next-behind.ensures ∙ ap g.R.Linked.next_of c.index-rows-i.is) in
-    c.row-at.ensures ∙ shown_front _ next b none l.few (nexts_split next a (i ∷ b) none l.nexts).1.2 (e ∙ behind_is list.front list.back next prev a b i l)
+    c.row_at.ensures ∙ shown_front _ next b none l.few (nexts_split next a (i ∷ b) none l.nexts).1.2 (e ∙ behind_is list.front list.back next prev a b i l)

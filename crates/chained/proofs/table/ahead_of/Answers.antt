@@ -4,8 +4,8 @@ use Rattle.recency.specs.Numbers.{none}
 use Rattle.chained.proofs.Searches.{Toward, toward_start, toward_more, toward_within, toward_less, toward_among}
 use Rattle.chained.proofs.table.ahead_of.Goals as goal
 
-pub link-of-next-requires : goal.link-of-next-requires
-link-of-next-requires g c =
+pub link_of-next-requires : goal.link_of-next-requires
+link_of-next-requires g c =
     let rows = c.args.rows.now in
     let link = map g.R.Chained.link_of rows in
     let first = c.args.first in
@@ -14,8 +14,8 @@ link-of-next-requires g c =
     let few : length link ≤ none = omega (arith, c.requires.few, even) in
     omega (arith, toward_within link first i few first (toward_start link first i) c.requires.inside, even)
 
-pub link-of-next-requires-in-loop-next : goal.link-of-next-requires-in-loop-next
-link-of-next-requires-in-loop-next g c =
+pub link_of-next-requires-in-loop-next : goal.link_of-next-requires-in-loop-next
+link_of-next-requires-in-loop-next g c =
     let rows = c.args.rows.now in
     let link = map g.R.Chained.link_of rows in
     let first = c.args.first in
@@ -49,7 +49,7 @@ loop-next-preserved g c =
     let at = c.loop-next.at in
     let inv = c.loop-next.invariant in
     let on = subst (λ f. Toward link first i f) (sym inv.2) (toward_more link first i few at inv.4 inv.3) in
-    (inv.1, omega (arith, c.link-of-next-in-loop-next.type-inv), c.link-of-next-in-loop-next.ensures, c.loop-next-test.true, on)
+    (inv.1, omega (arith, c.link_of-next-in-loop-next.type_inv), c.link_of-next-in-loop-next.ensures, c.loop-next-test.true, on)
 
 pub returns : goal.returns
 returns g c =

@@ -7,8 +7,8 @@ pub returns : goal.returns
 returns g c =
     let rows = c.args.rows.now in
     let i = c.args.i in
-    let row = c.set-link.new.self in
-    let told = c.set-link.ensures in
+    let row = c.set_link.new.self in
+    let told = c.set_link.ensures in
     let rest = column_kept g.R.Chained.bare rows i c.index-rows-i.result row c.requires told.rest in
     record {
       links = column_set g.R.Chained.link_of rows i row c.args.to told.aimed;

@@ -19,10 +19,10 @@ pub returns-else-at-eq-NONE : goal.returns-else-at-eq-NONE
 returns-else-at-eq-NONE g c =
     let rows = c.args.rows.now in
     let at = c.args.at in
-    let row = c.set-prev.new.self in
+    let row = c.set_prev.new.self in
     let d = c.index-rows-at.result in
     let lt = c.requires.within c.if-at-eq-NONE.false in
-    let told = c.set-prev.ensures in
+    let told = c.set_prev.ensures in
     record {
       back = sym (cond-false _ _ _ (ne_eqb at none c.if-at-eq-NONE.false));
       front = refl;

@@ -7,4 +7,4 @@ use Rattle.recency.proofs.RecencyList.back.Goals as goal
 
 pub returns : goal.returns
 returns c next prev ids l =
-    c.row-at.ensures ∙ shown_rear _ next ids [] none l.few (rw append-nil l.nexts) l.back-is
+    c.row_at.ensures ∙ shown_rear _ next ids [] none l.few (rw append-nil l.nexts) l.back_is

@@ -6,8 +6,8 @@ use Rattle.recency.specs.Lists.{Reads}
 use Rattle.recency.proofs.Counts.{count_moved, count_left_out, front_stays}
 use Rattle.recency.proofs.RecencyList.move_to_front.Goals as goal
 
-pub push-front-requires : goal.push-front-requires
-push-front-requires g c =
+pub push_front-requires : goal.push_front-requires
+push_front-requires g c =
     let i = c.args.i in
     record {
       within = omega (arith, c.requires.within, length-map c.unlink.new.rows g.R.Linked.bare, length-map c.args.rows.now g.R.Linked.bare, ap length c.unlink.ensures.rest);
@@ -18,7 +18,7 @@ pub returns-then-self-i : goal.returns-then-self-i
 returns-then-self-i g c =
     let i = c.args.i in
     let out = c.unlink.ensures in
-    let back = c.push-front.ensures in
+    let back = c.push_front.ensures in
     record {
       listed = λ ids l here. back.listed (without i ids) (out.listed ids l here) (count_left_out i ids);
       rest = back.rest ∙ out.rest;

@@ -8,16 +8,16 @@ use Rattle.chained.specs.Chains.{size}
 use Rattle.chained.proofs.Sound.{least_of, home_of}
 use Rattle.chained.proofs.Searches.{Ahead, Unlike, ahead_start, ahead_more, ahead_none, ahead_held, held_within, met_within, met_less}
 use Rattle.chained.proofs.table.Chains.find.Goals as goal
-use Rattle.chained.proofs.table.Chains.find.Goals.{else-hash-via-then-hash+else-has-key, else-hash-via-else-hash}
+use Rattle.chained.proofs.table.Chains.find.Goals.{else-hash-via-then-hash+else-has_key, else-hash-via-else-hash}
 
-pub slot-of-home-requires : goal.slot-of-home-requires
-slot-of-home-requires g c =
+pub slot_of-home-requires : goal.slot_of-home-requires
+slot_of-home-requires g c =
     least_of (size c.args.self.now) c.args.heads.now (map g.R.Chained.link_of c.args.rows.now) (map g.R.Chained.hash_of c.args.rows.now) c.requires
 
 pub bounds-heads-home : goal.bounds-heads-home
 bounds-heads-home g c =
     home_of (size c.args.self.now) c.args.heads.now (map g.R.Chained.link_of c.args.rows.now) (map g.R.Chained.hash_of c.args.rows.now)
-    c.slot-of-home.result _ c.requires c.slot-of-home.ensures
+    c.slot_of-home.result _ c.requires c.slot_of-home.ensures
 
 pub loop-at-init : goal.loop-at-init
 loop-at-init g c =
@@ -26,17 +26,17 @@ loop-at-init g c =
     let link = map g.R.Chained.link_of rows in
     let hash = map g.R.Chained.hash_of rows in
     let s = size c.args.self.now in
-    let t = c.slot-of-home.result in
-    let in_use = home_of s heads link hash t c.hash-hash.result c.requires c.slot-of-home.ensures in (
-      omega (arith, c.type-inv.heads t),
+    let t = c.slot_of-home.result in
+    let in_use = home_of s heads link hash t c.hash-hash.result c.requires c.slot_of-home.ensures in (
+      omega (arith, c.type_inv.heads t),
       λ ids h.
           ahead_start s heads link hash ids (Unlike g.R.Chained.hash_of (g.C.Keyed.key_of c.args.keys.now) rows c.hash-hash.result (g.C.Keyed.wanted c.args.key.now)) c.hash-hash.result (get_or heads t 0) h
-          (get_or_default heads t 0 none in_use ∙ ap (λ x. get_or heads x none) c.slot-of-home.ensures)
+          (get_or_default heads t 0 none in_use ∙ ap (λ x. get_or heads x none) c.slot_of-home.ensures)
           (λ k held other d same _. other (get_or-map g.R.Chained.hash_of rows k d 0 (omega (arith, held_within s heads link hash ids h k held, length-map rows g.R.Chained.link_of)) ∙ same)),
     )
 
-pub offset-bounds-rows-at : goal.offset-bounds-rows-at
-offset-bounds-rows-at g c =
+pub offset_bounds-rows-at : goal.offset_bounds-rows-at
+offset_bounds-rows-at g c =
     let rows = c.args.rows.now in
     let heads = c.args.heads.now in
     let link = map g.R.Chained.link_of rows in
@@ -63,8 +63,8 @@ bounds-rows-at g c =
     let lt : at < length rows = omega arith in
     lt
 
-pub returns-then-has-key : goal.returns-then-has-key
-returns-then-has-key g c = λ ids h.
+pub returns-then-has_key : goal.returns-then-has_key
+returns-then-has_key g c = λ ids h.
     let rows = c.args.rows.now in
     let heads = c.args.heads.now in
     let link = map g.R.Chained.link_of rows in
@@ -77,7 +77,7 @@ returns-then-has-key g c = λ ids h.
     let lt : at < length rows = omega arith in
     let held = ahead_held link ids P at (c.loop-at.invariant.1 ids h) c.loop-at-test.true in (
       omega (arith, h.once at),
-      λ d. ap (λ r. g.C.Keyed.key_of c.args.keys.now at r) (get_or_default rows at d c.index-rows-at.result lt ∙ sym c.index-rows-at.is) ∙ c.has-key.ensures.0 c.if-has-key.true,
+      λ d. ap (λ r. g.C.Keyed.key_of c.args.keys.now at r) (get_or_default rows at d c.index-rows-at.result lt ∙ sym c.index-rows-at.is) ∙ c.has_key.ensures.0 c.if-has_key.true,
     )
 
 pub loop-at-smaller : goal.loop-at-smaller
@@ -113,10 +113,10 @@ loop-at-preserved g c =
     let passed : P at =
     λ d same key.
     elim c.else-hash.branch [
-      | else-hash-via-then-hash+else-has-key w ↦ both_ways w.has-key.result w.if-has-key.false (w.has-key.ensures.1 (ap (λ r. g.C.Keyed.key_of c.args.keys.now at r) (sym (row_is d)) ∙ key))
+      | else-hash-via-then-hash+else-has_key w ↦ both_ways w.has_key.result w.if-has_key.false (w.has_key.ensures.1 (ap (λ r. g.C.Keyed.key_of c.args.keys.now at r) (sym (row_is d)) ∙ key))
       | else-hash-via-else-hash w ↦ w.if-hash.false (c.hash.ensures ∙ ap g.R.Chained.hash_of (sym (row_is d)) ∙ same)
     ] in (
-      omega (arith, c.link-at.type-inv),
+      omega (arith, c.link-at.type_inv),
       λ ids h. subst (λ f. Ahead link ids P f) (sym to) (ahead_more link ids P at (c.loop-at.invariant.1 ids h) c.loop-at-test.true passed),
     )
 

@@ -6,8 +6,8 @@ use Rattle.chained.proofs.Changes.{doubled}
 use Rattle.chained.proofs.Sizes.{grows}
 use Rattle.chained.proofs.table.Chains.grow_after.Goals as goal
 
-pub overflow-mul-self-then-self-heads : goal.overflow-mul-self-then-self-heads
-overflow-mul-self-then-self-heads c =
+pub overflow_mul-self-then-self-heads : goal.overflow_mul-self-then-self-heads
+overflow_mul-self-then-self-heads c =
     let l : length c.args.heads.now ≤ 16384 = ∥∥₁_elim c.requires le_prop (λ s. s.3.limit) in
     omega (arith, c.if-self-heads.true)
 

@@ -9,8 +9,8 @@ use Rattle.chained.proofs.Meanings.{one_row_more}
 use Rattle.chained.proofs.Changes.{inserted, home_below}
 use Rattle.chained.proofs.table.Chains.insert.Goals as goal
 
-pub slot-of-home-requires : goal.slot-of-home-requires
-slot-of-home-requires g c =
+pub slot_of-home-requires : goal.slot_of-home-requires
+slot_of-home-requires g c =
     let link = map g.R.Chained.link_of c.args.rows.now in
     let hash = map g.R.Chained.hash_of c.args.rows.now in
     let s = size c.args.self.now in
@@ -21,14 +21,14 @@ bounds-heads-home g c =
     let link = map g.R.Chained.link_of c.args.rows.now in
     let hash = map g.R.Chained.hash_of c.args.rows.now in
     let s = size c.args.self.now in
-    home_of s c.args.heads.now link hash c.slot-of-home.result _ (sound_of s c.args.heads.now link hash c.requires.outside) c.slot-of-home.ensures
+    home_of s c.args.heads.now link hash c.slot_of-home.result _ (sound_of s c.args.heads.now link hash c.requires.outside) c.slot_of-home.ensures
 
 pub bounds-heads-home-2 : goal.bounds-heads-home-2
 bounds-heads-home-2 g c =
     let link = map g.R.Chained.link_of c.args.rows.now in
     let hash = map g.R.Chained.hash_of c.args.rows.now in
     let s = size c.args.self.now in
-    home_of s c.args.heads.now link hash c.slot-of-home.result _ (sound_of s c.args.heads.now link hash c.requires.outside) c.slot-of-home.ensures
+    home_of s c.args.heads.now link hash c.slot_of-home.result _ (sound_of s c.args.heads.now link hash c.requires.outside) c.slot_of-home.ensures
 
 pub returns : goal.returns
 returns g c =
@@ -38,13 +38,13 @@ returns g c =
     let link = map g.R.Chained.link_of rows in
     let hash = map g.R.Chained.hash_of rows in
     let s = size c.args.self.now in
-    let t = c.slot-of-home.result in
+    let t = c.slot_of-home.result in
     let new = c.aim.new.rows in
     let link' = map g.R.Chained.link_of new in
     let hash' = map g.R.Chained.hash_of new in
     let held : (ids : List ℕ) → Holds s heads link hash ids → count i ids ≡ 0 → Holds s (set heads t i) link' hash' (i ∷ ids) =
     λ ids h out.
-    let te = c.slot-of-home.ensures ∙ ap (λ x. slot s x) c.hash-of.ensures in
+    let te = c.slot_of-home.ensures ∙ ap (λ x. slot s x) c.hash_of.ensures in
     let old = get_or_default heads t 0 none (home_below s heads link hash ids i t h te) in
     holds_as s (i ∷ ids) refl (c.aim.ensures.links ∙ ap (λ v. set link i v) old) c.aim.ensures.hashes
     (inserted s heads link hash ids i t h te (omega (arith, c.requires.within, length-map rows g.R.Chained.link_of)) out) in

@@ -10,8 +10,8 @@ use Rattle.chained.proofs.table.Chains.insert_all.Goals as goal
 pub loop-at-init : goal.loop-at-init
 loop-at-init g c = (omega arith, refl, λ ids rest h ch apart. (ids, rest, h, ch, apart, refl))
 
-pub link-of-next-requires : goal.link-of-next-requires
-link-of-next-requires g c =
+pub link_of-next-requires : goal.link_of-next-requires
+link_of-next-requires g c =
     let rows = c.loop-at.rows in
     let heads = c.loop-at.heads in
     let at = c.loop-at.at in
@@ -56,8 +56,8 @@ loop-at-smaller g c =
     let same : length new ≡ length rows = sym (length-map new g.R.Chained.bare) ∙ ap length c.insert.ensures.rest ∙ length-map rows g.R.Chained.bare in
     let same' : length link' ≡ length link = length-map new g.R.Chained.link_of ∙ same ∙ sym even in
     let agree : (k : ℕ) → (k ≡ at → ⊥) → get_or link' k none ≡ get_or link k none = λ k off. column_agree g.R.Chained.link_of new rows k same (λ d. c.insert.ensures.others k d off) in
-    let to = c.link-of-next.result in
-    let te = c.link-of-next.ensures in
+    let to = c.link_of-next.result in
+    let te = c.link_of-next.ensures in
     ∥∥₁_elim c.requires le_prop (λ x.
     let p = c.loop-at.invariant.2 x.0 x.1 x.2 x.3 x.4 in
     pour_less s heads link hash at (poured x.1 x.0) p ne link' to same' agree te)
@@ -77,9 +77,9 @@ loop-at-preserved g c =
     let same : length new ≡ length rows = sym (length-map new g.R.Chained.bare) ∙ ap length c.insert.ensures.rest ∙ length-map rows g.R.Chained.bare in
     let same' : length link' ≡ length link = length-map new g.R.Chained.link_of ∙ same ∙ sym even in
     let agree : (k : ℕ) → (k ≡ at → ⊥) → get_or link' k none ≡ get_or link k none = λ k off. column_agree g.R.Chained.link_of new rows k same (λ d. c.insert.ensures.others k d off) in
-    let to = c.link-of-next.result in
-    let te = c.link-of-next.ensures in (
-      omega (arith, c.link-of-next.type-inv),
+    let to = c.link_of-next.result in
+    let te = c.link_of-next.ensures in (
+      omega (arith, c.link_of-next.type_inv),
       c.insert.ensures.rest ∙ c.loop-at.invariant.1,
       λ ids rest h ch apart.
           let p = c.loop-at.invariant.2 ids rest h ch apart in

@@ -32,8 +32,8 @@ bounds-heads-old-then-self-gt0 g c =
     let below : unmoved - 1 < length heads = ∥∥₁_elim c.requires le_prop (λ x. old_below slots unmoved heads link hash x.0 x.1 some) in
     below
 
-pub insert-all-requires : goal.insert-all-requires
-insert-all-requires g c =
+pub insert_all-requires : goal.insert_all-requires
+insert_all-requires g c =
     let rows = c.args.rows.now in
     let heads = c.args.heads.now in
     let slots = c.args.self.now.slots in
@@ -63,8 +63,8 @@ returns-then-self-gt0 g c =
     let some = c.if-self-gt0.true in
     let below : unmoved - 1 < length heads = ∥∥₁_elim c.requires le_prop (λ x. old_below slots unmoved heads link hash x.0 x.1 some) in
     let old = get_or_default heads (unmoved - 1) 0 none below in
-    let new = c.insert-all.new.rows in
-    let heads' = c.insert-all.new.heads in
+    let new = c.insert_all.new.rows in
+    let heads' = c.insert_all.new.heads in
     let link' = map g.R.Chained.link_of new in
     let hash' = map g.R.Chained.hash_of new in
     let held : (ids : List ℕ) → Holds (slots, unmoved) heads link hash ids → Holds (slots, unmoved - 1) heads' link' hash' ids =
@@ -72,13 +72,13 @@ returns-then-self-gt0 g c =
     let cut = off slots unmoved heads link hash ids h some in
     recount (slots, unmoved - 1) heads' link' hash' (poured cut (less cut ids)) ids
     (off_counts slots unmoved heads link hash ids h some)
-    (c.insert-all.ensures.held (less cut ids) cut
+    (c.insert_all.ensures.held (less cut ids) cut
     (cut_off slots unmoved heads link hash ids h some)
     (subst (λ f. Chain link f cut) (sym old) (off_chain slots unmoved heads link hash ids h some))
     (off_apart slots unmoved heads link hash ids h some)) in
     record {
       moved = refl;
       held = held;
-      rest = c.insert-all.ensures.rest;
+      rest = c.insert_all.ensures.rest;
       past = λ ids h x past. past_same (slots, unmoved) (slots, unmoved - 1) heads heads' link link' hash hash' ids ids x h (held ids h) refl past;
     }

@@ -9,8 +9,8 @@ use Rattle.chained.proofs.Changes.{first_out, later_out, home_chain, home_slot}
 use Rattle.chained.proofs.Sound.{sound_of, least_of, home_of, few_of, holds_as, past_same}
 use Rattle.chained.proofs.table.Chains.remove.Goals as goal
 
-pub slot-of-home-requires : goal.slot-of-home-requires
-slot-of-home-requires g c =
+pub slot_of-home-requires : goal.slot_of-home-requires
+slot_of-home-requires g c =
     let rows = c.args.rows.now in
     let heads = c.args.heads.now in
     let i = c.args.i in
@@ -29,7 +29,7 @@ bounds-heads-home g c =
     let hash = map g.R.Chained.hash_of rows in
     let s = size c.args.self.now in
     let sound = sound_of s heads link hash c.requires.inside in
-    home_of s heads link hash c.slot-of-home.result c.hash-of.result sound c.slot-of-home.ensures
+    home_of s heads link hash c.slot_of-home.result c.hash_of.result sound c.slot_of-home.ensures
 
 pub bounds-heads-home-then-first-i : goal.bounds-heads-home-then-first-i
 bounds-heads-home-then-first-i g c =
@@ -40,10 +40,10 @@ bounds-heads-home-then-first-i g c =
     let hash = map g.R.Chained.hash_of rows in
     let s = size c.args.self.now in
     let sound = sound_of s heads link hash c.requires.inside in
-    home_of s heads link hash c.slot-of-home.result c.hash-of.result sound c.slot-of-home.ensures
+    home_of s heads link hash c.slot_of-home.result c.hash_of.result sound c.slot_of-home.ensures
 
-pub ahead-of-ahead-requires : goal.ahead-of-ahead-requires
-ahead-of-ahead-requires g c =
+pub ahead_of-ahead-requires : goal.ahead_of-ahead-requires
+ahead_of-ahead-requires g c =
     let rows = c.args.rows.now in
     let heads = c.args.heads.now in
     let i = c.args.i in
@@ -51,9 +51,9 @@ ahead-of-ahead-requires g c =
     let hash = map g.R.Chained.hash_of rows in
     let s = size c.args.self.now in
     let sound = sound_of s heads link hash c.requires.inside in
-    let t = c.slot-of-home.result in
-    let te = c.slot-of-home.ensures ∙ ap (λ x. slot s x) c.hash-of.ensures in
-    let below = home_of s heads link hash t c.hash-of.result sound c.slot-of-home.ensures in
+    let t = c.slot_of-home.result in
+    let te = c.slot_of-home.ensures ∙ ap (λ x. slot s x) c.hash_of.ensures in
+    let below = home_of s heads link hash t c.hash_of.result sound c.slot_of-home.ensures in
     let old = get_or_default heads t 0 none below in
     record {
       few = omega (arith, few_of s heads link hash sound, length-map rows g.R.Chained.link_of);
@@ -72,14 +72,14 @@ returns-then-first-i g c =
     let hash = map g.R.Chained.hash_of rows in
     let s = size c.args.self.now in
     let sound = sound_of s heads link hash c.requires.inside in
-    let t = c.slot-of-home.result in
-    let te = c.slot-of-home.ensures ∙ ap (λ x. slot s x) c.hash-of.ensures in
-    let below = home_of s heads link hash t c.hash-of.result sound c.slot-of-home.ensures in
+    let t = c.slot_of-home.result in
+    let te = c.slot_of-home.ensures ∙ ap (λ x. slot s x) c.hash_of.ensures in
+    let below = home_of s heads link hash t c.hash_of.result sound c.slot_of-home.ensures in
     let old = get_or_default heads t 0 none below in
-    let heads' = set heads t c.link-of-behind.result in
+    let heads' = set heads t c.link_of-behind.result in
     let held : (ids : List ℕ) → Holds s heads link hash ids → count i ids ≡ 1 → Holds s heads' link hash (without i ids) =
     λ ids h here.
-    holds_as s (without i ids) (ap (λ v. set heads t v) c.link-of-behind.ensures) refl refl
+    holds_as s (without i ids) (ap (λ v. set heads t v) c.link_of-behind.ensures) refl refl
     (first_out s heads link hash ids i t h te here (sym old ∙ c.if-first-i.true)) in
     record {
       held = held;
@@ -97,12 +97,12 @@ returns-else-first-i g c =
     let hash = map g.R.Chained.hash_of rows in
     let s = size c.args.self.now in
     let sound = sound_of s heads link hash c.requires.inside in
-    let t = c.slot-of-home.result in
-    let te = c.slot-of-home.ensures ∙ ap (λ x. slot s x) c.hash-of.ensures in
-    let below = home_of s heads link hash t c.hash-of.result sound c.slot-of-home.ensures in
+    let t = c.slot_of-home.result in
+    let te = c.slot_of-home.ensures ∙ ap (λ x. slot s x) c.hash_of.ensures in
+    let below = home_of s heads link hash t c.hash_of.result sound c.slot_of-home.ensures in
     let old = get_or_default heads t 0 none below in
-    let p = c.ahead-of-ahead.result in
-    let told = c.ahead-of-ahead.ensures in
+    let p = c.ahead_of-ahead.result in
+    let told = c.ahead_of-ahead.ensures in
     let aimed = c.aim.ensures in
     let among : (ids : List ℕ) → Holds s heads link hash ids → count i ids ≡ 1 → (slot s (get_or hash p 0) ≡ t) × (count p ids ≡ 1) =
     λ ids h here.
@@ -111,7 +111,7 @@ returns-else-first-i g c =
     record {
       held = λ ids h here.
           let q = among ids h here in
-          holds_as s (without i ids) refl (aimed.links ∙ ap (λ v. set link p v) c.link-of-behind.ensures) aimed.hashes
+          holds_as s (without i ids) refl (aimed.links ∙ ap (λ v. set link p v) c.link_of-behind.ensures) aimed.hashes
           (later_out s heads link hash ids i t h te here p q.0 q.1 told.names);
       rest = aimed.rest;
       outside = λ ids h here k d out. aimed.others k d (λ e. omega (arith, (among ids h here).1, ap (λ y. count y ids) e));

@@ -12,8 +12,8 @@ returns-then-end-self c =
     let key = c.args.key.now.bytes.now in
     let row = c.args.row.now in
     let e : text_at bytes row.at row.len ≡ [] = cond-true _ _ _ (lt-ltb (length bytes) (row.at + row.len) c.if-end-self.true) in (
-      (λ t. e ∙ sym (nil_from_length key (eqb-true (length key) 0 (sym c.is-empty.ensures ∙ t)))),
-      (λ q. c.is-empty.ensures ∙ eq-eqb (length key) 0 (ap length (sym q ∙ e))),
+      (λ t. e ∙ sym (nil_from_length key (eqb-true (length key) 0 (sym c.is_empty.ensures ∙ t)))),
+      (λ q. c.is_empty.ensures ∙ eq-eqb (length key) 0 (ap length (sym q ∙ e))),
     )
 
 pub returns : goal.returns

@@ -21,7 +21,7 @@ grow-requires c =
     let row : Visitor = record { number = old.number; held = true; link = old.link } in
     let lt : i < length one = omega (arith, c.requires.within, even rows one c.insert.ensures.rest) in
     let here : i < length (map present rows) = omega (arith, c.requires.within, length-map rows present) in
-    ∥∥₁_map c.requires.outside (λ s. (_, marked_attended c.args.self.now.chains c.saturating-add-self.result c.insert.new.heads rows one i 1 d row (i ∷ s.0) lt refl refl (c.insert.ensures.held s.0 s.1.kept s.2) (marks_in (map present rows) s.0 i here s.2 s.1.marks) (marks_by_table rows one c.insert.ensures.rest) refl))
+    ∥∥₁_map c.requires.outside (λ s. (_, marked_attended c.args.self.now.chains c.saturating_add-self.result c.insert.new.heads rows one i 1 d row (i ∷ s.0) lt refl refl (c.insert.ensures.held s.0 s.1.kept s.2) (marks_in (map present rows) s.0 i here s.2 s.1.marks) (marks_by_table rows one c.insert.ensures.rest) refl))
 
 pub returns : goal.returns
 returns c = λ ids h out.
@@ -33,4 +33,4 @@ returns c = λ ids h out.
     let row : Visitor = record { number = old.number; held = true; link = old.link } in
     let lt : i < length one = omega (arith, c.requires.within, even rows one c.insert.ensures.rest) in
     let here : i < length (map present rows) = omega (arith, c.requires.within, length-map rows present) in
-    c.grow.ensures (i ∷ ids) (marked_attended c.args.self.now.chains c.saturating-add-self.result c.insert.new.heads rows one i 1 d row (i ∷ ids) lt refl refl (c.insert.ensures.held ids h.kept out) (marks_in (map present rows) ids i here out h.marks) (marks_by_table rows one c.insert.ensures.rest) refl)
+    c.grow.ensures (i ∷ ids) (marked_attended c.args.self.now.chains c.saturating_add-self.result c.insert.new.heads rows one i 1 d row (i ∷ ids) lt refl refl (c.insert.ensures.held ids h.kept out) (marks_in (map present rows) ids i here out h.marks) (marks_by_table rows one c.insert.ensures.rest) refl)

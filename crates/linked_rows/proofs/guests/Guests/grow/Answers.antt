@@ -3,11 +3,11 @@ use mathlib.Core.Logic.{∥∥₁_map}
 use Rattle.linked_rows.proofs.Held.{marks_by_table}
 use Rattle.linked_rows.proofs.guests.Guests.grow.Goals as goal
 
-pub grow-after-requires : goal.grow-after-requires
-grow-after-requires c = ∥∥₁_map c.requires (λ s. (map (λ row. row.link) c.args.rows.now, map (λ row. row.number) c.args.rows.now, s.0, s.1.kept))
+pub grow_after-requires : goal.grow_after-requires
+grow_after-requires c = ∥∥₁_map c.requires (λ s. (map (λ row. row.link) c.args.rows.now, map (λ row. row.number) c.args.rows.now, s.0, s.1.kept))
 
-pub move-one-requires : goal.move-one-requires
-move-one-requires c = ∥∥₁_map c.requires (λ s. (s.0, c.grow_after.ensures.held _ _ s.0 s.1.kept))
+pub move_one-requires : goal.move_one-requires
+move_one-requires c = ∥∥₁_map c.requires (λ s. (s.0, c.grow_after.ensures.held _ _ s.0 s.1.kept))
 
 pub returns : goal.returns
 returns c = λ ids h.

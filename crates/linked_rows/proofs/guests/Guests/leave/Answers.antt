@@ -21,7 +21,7 @@ grow-requires c =
     let row : Visitor = record { number = old.number; held = false; link = old.link } in
     let lt : i < length one = omega (arith, c.requires.within, even rows one c.remove.ensures.rest) in
     let here : i < length (map present rows) = omega (arith, c.requires.within, length-map rows present) in
-    ∥∥₁_map c.requires.inside (λ s. (_, marked_attended c.args.self.now.chains c.saturating-sub-self.result c.remove.new.heads rows one i 0 d row (without i s.0) lt refl refl (c.remove.ensures.held s.0 s.1.kept s.2) (marks_out (map present rows) s.0 i here s.1.marks) (marks_by_table rows one c.remove.ensures.rest) refl))
+    ∥∥₁_map c.requires.inside (λ s. (_, marked_attended c.args.self.now.chains c.saturating_sub-self.result c.remove.new.heads rows one i 0 d row (without i s.0) lt refl refl (c.remove.ensures.held s.0 s.1.kept s.2) (marks_out (map present rows) s.0 i here s.1.marks) (marks_by_table rows one c.remove.ensures.rest) refl))
 
 pub returns : goal.returns
 returns c = λ ids h there.
@@ -33,4 +33,4 @@ returns c = λ ids h there.
     let row : Visitor = record { number = old.number; held = false; link = old.link } in
     let lt : i < length one = omega (arith, c.requires.within, even rows one c.remove.ensures.rest) in
     let here : i < length (map present rows) = omega (arith, c.requires.within, length-map rows present) in
-    c.grow.ensures (without i ids) (marked_attended c.args.self.now.chains c.saturating-sub-self.result c.remove.new.heads rows one i 0 d row (without i ids) lt refl refl (c.remove.ensures.held ids h.kept there) (marks_out (map present rows) ids i here h.marks) (marks_by_table rows one c.remove.ensures.rest) refl)
+    c.grow.ensures (without i ids) (marked_attended c.args.self.now.chains c.saturating_sub-self.result c.remove.new.heads rows one i 0 d row (without i ids) lt refl refl (c.remove.ensures.held ids h.kept there) (marks_out (map present rows) ids i here h.marks) (marks_by_table rows one c.remove.ensures.rest) refl)

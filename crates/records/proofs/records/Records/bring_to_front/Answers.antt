@@ -23,18 +23,18 @@ retag-requires c =
       hash = ap (λ x. x.hash) c.tag-tag.ensures ∙ sym (at_column (λ row. row.tag.hash) rs c.args.i);
     }
 
-pub move-to-front-requires : goal.move-to-front-requires
-move-to-front-requires c = ∥∥₁_map c.retag.ensures.standing (λ s. s.sound)
+pub move_to_front-requires : goal.move_to_front-requires
+move_to_front-requires c = ∥∥₁_map c.retag.ensures.standing (λ s. s.sound)
 
 pub returns : goal.returns
 returns c =
     let s = c.args.self.now.slab in
     let i = c.args.i in
     let u = c.retag.new.self in
-    let new = c.move-to-front.new.self in
+    let new = c.move_to_front.new.self in
     let told = c.retag.ensures.retagged in
     let held : Holds u.slab i = ap (λ h. get_or h i 0) told.homes_stay ∙ c.requires.held ∙ ap (λ l. held_of (class_at l i)) (sym told.layout_stays) in
-    let went = (c.move-to-front.ensures.moved.yes held).1 in
+    let went = (c.move_to_front.ensures.moved.yes held).1 in
     let tag_is : c.tag-tag.result ≡ get_or (tags (rows_of s)) i blank.tag = c.tag-tag.ensures ∙ sym (at_column (λ row. row.tag) (rows_of s) i) in
     let retagged : Retagged s u.slab i (at_second c.args.second (get_or (tags (rows_of s)) i blank.tag)) =
     subst (λ x. Retagged s u.slab i (at_second c.args.second x)) tag_is told in
@@ -42,7 +42,7 @@ returns c =
     subst (λ l. Reordered u.slab new (to_front i (held_of (class_at l i)))) told.layout_stays went in
     let lt : i < length (rows_of s) = rw (length-map (rows_of s) (λ row. row.home)) at (within (homes_of s) i (rw c.requires.held (omega arith))) in
     record {
-      standing = ∥∥₁_elim c.move-to-front.ensures.sound ∥∥₁_prop (λ sound.
+      standing = ∥∥₁_elim c.move_to_front.ensures.sound ∥∥₁_prop (λ sound.
           ∥∥₁_map c.retag.ensures.standing (λ st. record { sound = sound; indexed = reindexed u new went.rests went.homes went.layout st.indexed }));
       kept = record {
         layout = went.layout ∙ c.retag.ensures.kept.layout;

@@ -5,8 +5,8 @@ use Rattle.slabs.specs.Slabs.{rows_of}
 use Rattle.records.proofs.Searching.{lent_search, searched_held, searched}
 use Rattle.records.proofs.records.Records.find.Goals as goal
 
-pub invariant-of-pages : goal.invariant-of-pages
-invariant-of-pages c = (∥∥₁_map c.requires.standing (λ s. s.sound), tt)
+pub invariant_of-pages : goal.invariant_of-pages
+invariant_of-pages c = (∥∥₁_map c.requires.standing (λ s. s.sound), tt)
 
 -- what the table keeps over slots and rows as they are lent
 pub find-requires : goal.find-requires

@@ -3,8 +3,8 @@ use Rattle.std.proofs.Common.{refl}
 use Rattle.records.proofs.Paging.{gave_standing, gave_pages, gave_same, gave_granted, gave_shown, gave_answer}
 use Rattle.records.proofs.records.Records.give_page.Goals as goal
 
-pub give-page-requires : goal.give-page-requires
-give-page-requires c = ∥∥₁_map c.requires.standing (λ s. s.sound)
+pub give_page-requires : goal.give_page-requires
+give_page-requires c = ∥∥₁_map c.requires.standing (λ s. s.sound)
 
 pub returns : goal.returns
 returns c =

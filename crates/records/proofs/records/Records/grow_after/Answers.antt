@@ -6,8 +6,8 @@ use Rattle.slabs.specs.Slabs.{rows_of}
 use Rattle.chained.proofs.Sound.{holds_as}
 use Rattle.records.proofs.records.Records.grow_after.Goals as goal
 
-pub grow-after-requires : goal.grow-after-requires
-grow-after-requires c =
+pub grow_after-requires : goal.grow_after-requires
+grow_after-requires c =
     let t = c.args.self.now in
     ∥∥₁_map c.requires.standing (λ s. (map (λ row. row.chain) (rows_of t.slab), map (λ row. row.tag.hash) (rows_of t.slab), s.indexed.ids, holds_as (size t.table) s.indexed.ids c.deref.ensures.value refl refl s.indexed.kept))
 

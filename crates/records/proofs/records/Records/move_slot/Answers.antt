@@ -15,8 +15,8 @@ use Rattle.records.proofs.Turns.{told}
 use Rattle.records.specs.Standing.{Standing}
 use Rattle.records.proofs.records.Records.move_slot.Goals as goal
 
-pub move-one-requires : goal.move-one-requires
-move-one-requires c =
+pub move_one-requires : goal.move_one-requires
+move_one-requires c =
     let t = c.args.self.now in
     ∥∥₁_map c.requires.standing (λ s. (s.indexed.ids, holds_as (size t.table) s.indexed.ids c.deref-mut.ensures.value (ap (map (λ row. row.chain)) c.deref-mut-2.ensures.value) (ap (map (λ row. row.tag.hash)) c.deref-mut-2.ensures.value) s.indexed.kept))
 

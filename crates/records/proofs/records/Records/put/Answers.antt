@@ -82,8 +82,8 @@ returns-in-Ok c =
     }
 
 -- key and data fit, so that the grant is not given back
-pub give-back-requires : goal.give-back-requires
-give-back-requires c = absurd (c.in-Err.ensures.linked.1 (record { fits = c.requires.fits; wide = c.requires.memory }))
+pub give_back-requires : goal.give_back-requires
+give_back-requires c = absurd (c.in-Err.ensures.linked.1 (record { fits = c.requires.fits; wide = c.requires.memory }))
 
 pub returns-in-Err : goal.returns-in-Err
 returns-in-Err c = absurd (c.in-Err.ensures.linked.1 (record { fits = c.requires.fits; wide = c.requires.memory }))

@@ -11,8 +11,8 @@ use Rattle.records.proofs.Maps.{map_rear_that, rearmost_that_on}
 use Rattle.records.proofs.Picks.{picked_held, picked_shown}
 use Rattle.records.proofs.records.Records.rearmost_dead.Goals as goal
 
-pub rearmost-that-requires : goal.rearmost-that-requires
-rearmost-that-requires c = ∥∥₁_map c.requires.standing (λ s. s.sound)
+pub rearmost_that-requires : goal.rearmost_that-requires
+rearmost_that-requires c = ∥∥₁_map c.requires.standing (λ s. s.sound)
 
 pub returns : goal.returns
 returns c =
@@ -20,6 +20,6 @@ returns c =
     let sound = ∥∥₁_map c.requires.standing (λ st. st.sound) in
     let test : ℕ → Bool = λ i. dead_at c.args.second (get_or (rows_of s) i blank).tag.expiry in
     record {
-      held = picked_held s sound c.args.class (λ ids. rearmost (keep test ids)) c.rearmost-that.result c.rearmost-that.ensures (rearmost_that_on test);
-      shown = λ setup memory ks. picked_shown s sound c.args.class (λ ids. rearmost (keep test ids)) c.rearmost-that.result c.rearmost-that.ensures (last (dead c.args.second)) setup memory ks (map_rear_that (dead c.args.second) (record_at (layout s) (rows_of s) memory));
+      held = picked_held s sound c.args.class (λ ids. rearmost (keep test ids)) c.rearmost_that.result c.rearmost_that.ensures (rearmost_that_on test);
+      shown = λ setup memory ks. picked_shown s sound c.args.class (λ ids. rearmost (keep test ids)) c.rearmost_that.result c.rearmost_that.ensures (last (dead c.args.second)) setup memory ks (map_rear_that (dead c.args.second) (record_at (layout s) (rows_of s) memory));
     }

@@ -8,14 +8,14 @@ use Rattle.records.specs.Standing.{Standing, Indexed}
 use Rattle.records.proofs.Telling.{hashes_stay}
 use Rattle.records.proofs.records.Records.retag.Goals as goal
 
-pub set-tag-requires : goal.set-tag-requires
-set-tag-requires c = ∥∥₁_map c.requires.standing (λ s. s.sound)
+pub set_tag-requires : goal.set_tag-requires
+set_tag-requires c = ∥∥₁_map c.requires.standing (λ s. s.sound)
 
 pub returns : goal.returns
 returns c =
     let t = c.args.self.now in
-    let new = c.set-tag.new.self in
-    let told = (c.set-tag.ensures.retagged.yes c.requires.held).1 in
+    let new = c.set_tag.new.self in
+    let told = (c.set_tag.ensures.retagged.yes c.requires.held).1 in
     let hashes = hashes_stay (rows_of t.slab) (rows_of new) c.args.i c.args.tag told.tags_are c.requires.hash in
     let indexed : Standing t → Indexed _ = λ s.
     let ids = s.indexed.ids in
@@ -29,7 +29,7 @@ returns c =
           ∙ ap (λ l. cond (eqb (get_or (homes_of new) k 0) (held_of (class_at l k))) 1 0) (sym told.layout_stays);
     } in
     record {
-      standing = ∥∥₁_elim c.set-tag.ensures.sound ∥∥₁_prop (λ sound. ∥∥₁_map c.requires.standing (λ s. record { sound = sound; indexed = indexed s }));
+      standing = ∥∥₁_elim c.set_tag.ensures.sound ∥∥₁_prop (λ sound. ∥∥₁_map c.requires.standing (λ s. record { sound = sound; indexed = indexed s }));
       retagged = told;
       kept = record { layout = told.layout_stays; table = refl; slots = refl; granted = λ k class h. ap (λ x. get_or x k 0) (sym told.homes_stay) ∙ h };
     }

@@ -8,20 +8,20 @@ use Rattle.sessions.proofs.Kept.{listed_within}
 use Rattle.sessions.proofs.Sweeps.{at_rear, no_rear, at_rear_once, nothing_ends_busy, rear_busy, rear_idle, rear_left}
 use Rattle.sessions.proofs.roster.Roster.close_rearmost.Goals as goal
 
-pub returns-in-default : goal.returns-in-default
-returns-in-default c =
+pub returns-in_default : goal.returns-in_default
+returns-in_default c =
     let rows = c.args.rows.now in
     let second = c.args.second in
     let limit = c.args.limit in
     record {
       shown = λ xs s.
-          let empty : xs ≡ [] = s.3 ∙ ap (sessions_at rows) (no_rear s.0 (c.in-default.ensures _ _ s.0 s.2.laid.listed)) in
+          let empty : xs ≡ [] = s.3 ∙ ap (sessions_at rows) (no_rear s.0 (c.in_default.ensures _ _ s.0 s.2.laid.listed)) in
           (subst (EndsBusy second limit) (sym empty) (nothing_ends_busy second limit), s);
       callers = refl;
     }
 
-pub last-second-requires : goal.last-second-requires
-last-second-requires c =
+pub last_second-requires : goal.last_second-requires
+last_second-requires c =
     let i = c.in-Some.i in
     ∥∥₁_elim c.requires le_prop (λ t.
     let s = t.1 in
@@ -37,7 +37,7 @@ returns-then-from-until c =
     record {
       shown = λ xs s.
           let e = c.in-Some.ensures _ _ s.0 s.2.laid.listed in
-          let late : second < (get_or (map session_of rows) i (session 0 0)).last + limit = omega (arith, c.last-second.ensures, c.from.ensures, c.from-2.ensures, c.from-3.ensures, c.if-from-until.true) in
+          let late : second < (get_or (map session_of rows) i (session 0 0)).last + limit = omega (arith, c.last_second.ensures, c.from.ensures, c.from-2.ensures, c.from-3.ensures, c.if-from-until.true) in
           (subst (EndsBusy second limit) (sym s.3) (rear_busy rows s.0 i e second limit late), s);
       callers = refl;
     }
@@ -63,7 +63,7 @@ returns c =
           let l = s.2.laid.listed in
           let e = c.in-Some.ensures _ _ ids l in
           let ys = sessions_at rows (at_rear ids i e).0 in
-          let due : (get_or (map session_of rows) i (session 0 0)).last + limit ≤ second = omega (arith, c.last-second.ensures, c.from.ensures, c.from-2.ensures, c.from-3.ensures, c.if-from-until.false) in (
+          let due : (get_or (map session_of rows) i (session 0 0)).last + limit ≤ second = omega (arith, c.last_second.ensures, c.from.ensures, c.from-2.ensures, c.from-3.ensures, c.if-from-until.false) in (
             ys,
             subst (λ zs. LastIdle second limit zs ys) (sym s.3) (rear_idle rows ids i e second limit due),
             (

@@ -6,8 +6,8 @@ use Rattle.sessions.specs.Orders.{Distinct}
 use Rattle.sessions.proofs.Kept.{even, reads_on}
 use Rattle.sessions.proofs.roster.Roster.move_slot.Goals as goal
 
-pub move-one-requires : goal.move-one-requires
-move-one-requires c = ∥∥₁_map c.requires (λ t. (t.1.0, t.1.2.laid.kept))
+pub move_one-requires : goal.move_one-requires
+move_one-requires c = ∥∥₁_map c.requires (λ t. (t.1.0, t.1.2.laid.kept))
 
 pub returns : goal.returns
 returns c =

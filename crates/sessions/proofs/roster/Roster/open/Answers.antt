@@ -4,8 +4,8 @@ use Rattle.sessions.proofs.roster.Roster.open.Goals as goal
 
 pub returns : goal.returns
 returns c =
-    let rows = c.all-of.new.rows in
-    let all = c.all-of.ensures in
+    let rows = c.all_of.new.rows in
+    let all = c.all_of.ensures in
     let long : length rows ≡ 64 = omega arith in
     record {
       shown = (

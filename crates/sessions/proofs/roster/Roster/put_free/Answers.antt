@@ -7,8 +7,8 @@ use Rattle.sessions.specs.Rows.{session_of, unlisted}
 use Rattle.sessions.proofs.Kept.{even, keeps_on}
 use Rattle.sessions.proofs.roster.Roster.put_free.Goals as goal
 
-pub push-front-requires : goal.push-front-requires
-push-front-requires c =
+pub push_front-requires : goal.push_front-requires
+push_front-requires c =
     record {
       within = ∥∥₁_elim c.requires le_prop (λ s. s.4);
       outside = ∥∥₁_map c.requires (λ s. (s.2, s.3.spare, s.6));
@@ -17,14 +17,14 @@ push-front-requires c =
 pub returns : goal.returns
 returns c =
     let rows = c.args.rows.now in
-    let new = c.push-front.new.rows in
-    let rest = c.push-front.ensures.rest in
+    let new = c.push_front.new.rows in
+    let rest = c.push_front.ensures.rest in
     let i = c.args.i in
     record {
       laid = λ slots ids free h shut out.
           record {
-            listed = c.push-front.ensures.others free h.spare c.args.self.now.open ids h.listed (λ k. let a = h.apart k in grind (arith, nat_tests));
-            spare = c.push-front.ensures.listed free h.spare out;
+            listed = c.push_front.ensures.others free h.spare c.args.self.now.open ids h.listed (λ k. let a = h.apart k in grind (arith, nat_tests));
+            spare = c.push_front.ensures.listed free h.spare out;
             kept = keeps_on c.args.self.now.callers slots rows new ids rest h.kept;
             apart = λ k. let a = h.apart k in grind (arith, nat_tests);
             all_rows = even unlisted rows new rest ∙ h.all_rows;

@@ -10,8 +10,8 @@ use Rattle.sessions.proofs.roster.Roster.put_open.Goals as goal
 pub insert-requires : goal.insert-requires
 insert-requires c = record { within = ∥∥₁_elim c.requires le_prop (λ s. s.3); outside = ∥∥₁_map c.requires (λ s. (s.0, s.2.kept, s.4)) }
 
-pub push-front-requires : goal.push-front-requires
-push-front-requires c =
+pub push_front-requires : goal.push_front-requires
+push_front-requires c =
     let rows = c.args.rows.now in
     let one = c.insert.new.rows in
     let rest = c.insert.ensures.rest in
@@ -24,9 +24,9 @@ pub returns : goal.returns
 returns c =
     let rows = c.args.rows.now in
     let one = c.insert.new.rows in
-    let two = c.push-front.new.rows in
+    let two = c.push_front.new.rows in
     let by_table = c.insert.ensures.rest in
-    let by_list = c.push-front.ensures.rest in
+    let by_list = c.push_front.ensures.rest in
     let self = c.args.self.now in
     let i = c.args.i in
     record {
@@ -34,8 +34,8 @@ returns c =
           let open_one = reads_on unchained (λ _. refl) (λ _. refl) self.open rows one ids by_table h.listed in
           let free_one = reads_on unchained (λ _. refl) (λ _. refl) self.free rows one free by_table h.spare in
           record {
-            listed = c.push-front.ensures.listed ids open_one shut;
-            spare = c.push-front.ensures.others ids open_one self.free free free_one (λ k. let a = h.apart k in grind (arith, nat_tests));
+            listed = c.push_front.ensures.listed ids open_one shut;
+            spare = c.push_front.ensures.others ids open_one self.free free free_one (λ k. let a = h.apart k in grind (arith, nat_tests));
             kept = keeps_on self.callers c.insert.new.heads one two (i ∷ ids) by_list (c.insert.ensures.held ids h.kept shut);
             apart = λ k. let a = h.apart k in grind (arith, nat_tests);
             all_rows = even unlisted one two by_list ∙ even unchained rows one by_table ∙ h.all_rows;

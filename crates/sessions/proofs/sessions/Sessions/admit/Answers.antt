@@ -11,30 +11,30 @@ use Rattle.sessions.proofs.Shown.{placed_as, shown_back, not_found, spare_once, 
 use Rattle.sessions.proofs.Laying.{shorter}
 use Rattle.sessions.proofs.sessions.Sessions.admit.Goals as goal
 
-pub returns-then-caller-gt-LAST-CALLER : goal.returns-then-caller-gt-LAST-CALLER
-returns-then-caller-gt-LAST-CALLER c =
+pub returns-then-caller-gt-LAST_CALLER : goal.returns-then-caller-gt-LAST_CALLER
+returns-then-caller-gt-LAST_CALLER c =
     record {
-      shown = λ xs s. (verdict c.args.caller xs true _ _ (lt-ltb 4194303 c.args.caller c.if-caller-gt-LAST-CALLER.true) refl refl, s);
+      shown = λ xs s. (verdict c.args.caller xs true _ _ (lt-ltb 4194303 c.args.caller c.if-caller-gt-LAST_CALLER.true) refl refl, s);
       grown = λ xs s e. absurd (false≢true e);
       same = λ _. refl;
     }
 
-pub returns-then-is-open : goal.returns-then-is-open
-returns-then-is-open c =
+pub returns-then-is_open : goal.returns-then-is_open
+returns-then-is_open c =
     record {
-      shown = λ xs s. (verdict c.args.caller xs false true _ (le-ltb 4194303 c.args.caller c.if-caller-gt-LAST-CALLER.false) (sym (c.if-is-open.ensures xs s)) refl, s);
+      shown = λ xs s. (verdict c.args.caller xs false true _ (le-ltb 4194303 c.args.caller c.if-caller-gt-LAST_CALLER.false) (sym (c.if-is_open.ensures xs s)) refl, s);
       grown = λ xs s e. absurd (false≢true e);
       same = λ _. refl;
     }
 
-pub returns-in-default : goal.returns-in-default
-returns-in-default c =
+pub returns-in_default : goal.returns-in_default
+returns-in_default c =
     let self = c.args.self.now in
     record {
       shown = λ xs s.
           let all : 64 ≤ length xs =
-          omega (arith, no_spare s.1 (c.in-default.ensures s.0 s.1 s.2), s.2.whole, s.2.counted, shown_count self.roster (vec_items self.slots) (vec_items self.rows) xs s) in
-          (verdict c.args.caller xs false false true (le-ltb 4194303 c.args.caller c.if-caller-gt-LAST-CALLER.false) (sym (c.if-is-open.ensures xs s)) (le-leb 64 (length xs) all), s);
+          omega (arith, no_spare s.1 (c.in_default.ensures s.0 s.1 s.2), s.2.whole, s.2.counted, shown_count self.roster (vec_items self.slots) (vec_items self.rows) xs s) in
+          (verdict c.args.caller xs false false true (le-ltb 4194303 c.args.caller c.if-caller-gt-LAST_CALLER.false) (sym (c.if-is_open.ensures xs s)) (le-leb 64 (length xs) all), s);
       grown = λ xs s e. absurd (false≢true e);
       same = λ _. refl;
     }
@@ -49,11 +49,11 @@ enter-requires c =
       s.1,
       placed_as self.roster s.0 s.1 c.deref-mut.ensures.value lent s.2,
       spare_once s.1 c.in-Some.i s.2.laid.spare.once (c.in-Some.ensures s.0 s.1 s.2),
-      ap (first (of_caller c.args.caller)) (ap (λ rows. sessions_at rows s.0) lent ∙ sym s.3) ∙ not_found c.args.caller t.0 (sym (c.if-is-open.ensures t.0 s)),
+      ap (first (of_caller c.args.caller)) (ap (λ rows. sessions_at rows s.0) lent ∙ sym s.3) ∙ not_found c.args.caller t.0 (sym (c.if-is_open.ensures t.0 s)),
     ))
 
-pub invariant-of-self : goal.invariant-of-self
-invariant-of-self c =
+pub invariant_of-self : goal.invariant_of-self
+invariant_of-self c =
     let self = c.args.self.now in
     let lent = c.deref-mut-2.ensures.value in (
       ∥∥₁_map self.ok (λ t.
@@ -62,7 +62,7 @@ invariant-of-self c =
             shown_back c.enter.new.self _ self.slots self.rows c.enter.new.slots c.enter.new.rows (omega arith) (omega arith)
                 (c.enter.ensures.shown s.0 s.1 (placed_as self.roster s.0 s.1 c.deref-mut.ensures.value lent s.2)
                 (spare_once s.1 c.in-Some.i s.2.laid.spare.once (c.in-Some.ensures s.0 s.1 s.2))
-                (ap (first (of_caller c.args.caller)) (ap (λ rows. sessions_at rows s.0) lent ∙ sym s.3) ∙ not_found c.args.caller t.0 (sym (c.if-is-open.ensures t.0 s)))),
+                (ap (first (of_caller c.args.caller)) (ap (λ rows. sessions_at rows s.0) lent ∙ sym s.3) ∙ not_found c.args.caller t.0 (sym (c.if-is_open.ensures t.0 s)))),
           )),
       tt,
     )
@@ -81,13 +81,13 @@ returns c =
     subst (λ ys. Shown new slots rows (served caller second ys)) (ap (λ rs. sessions_at rs s.0) lent ∙ sym s.3)
     (c.enter.ensures.shown s.0 s.1 (placed_as self.roster s.0 s.1 c.deref-mut.ensures.value lent s.2)
     (spare_once s.1 c.in-Some.i s.2.laid.spare.once (c.in-Some.ensures s.0 s.1 s.2))
-    (ap (first (of_caller caller)) (ap (λ rs. sessions_at rs s.0) lent ∙ sym s.3) ∙ not_found caller xs (sym (c.if-is-open.ensures xs s)))) in
+    (ap (first (of_caller caller)) (ap (λ rs. sessions_at rs s.0) lent ∙ sym s.3) ∙ not_found caller xs (sym (c.if-is_open.ensures xs s)))) in
     record {
       shown = λ xs s.
           let here = spare_once s.1 c.in-Some.i s.2.laid.spare.once (c.in-Some.ensures s.0 s.1 s.2) in
           let room : length xs < 64 =
           omega (arith, shorter c.in-Some.i s.1 here, s.2.whole, s.2.counted, shown_count self.roster (vec_items self.slots) (vec_items self.rows) xs s) in (
-            verdict caller xs false false false (le-ltb 4194303 caller c.if-caller-gt-LAST-CALLER.false) (sym (c.if-is-open.ensures xs s)) (lt-leb 64 (length xs) room),
+            verdict caller xs false false false (le-ltb 4194303 caller c.if-caller-gt-LAST_CALLER.false) (sym (c.if-is_open.ensures xs s)) (lt-leb 64 (length xs) room),
             shown_back new (served caller second xs) self.slots self.rows slots rows (omega arith) (omega arith) (after xs s),
           );
       grown = λ xs s _.

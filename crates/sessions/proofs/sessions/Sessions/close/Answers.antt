@@ -7,12 +7,12 @@ use Rattle.sessions.specs.Admissions.{has_session}
 use Rattle.sessions.proofs.Shown.{placed_as, shown_back, shown_without, found}
 use Rattle.sessions.proofs.sessions.Sessions.close.Goals as goal
 
-pub returns-in-default : goal.returns-in-default
-returns-in-default c =
+pub returns-in_default : goal.returns-in_default
+returns-in_default c =
     let col = map session_of (vec_items c.args.self.now.rows) in
     record {
       shown = λ xs s.
-          (ap (has_session c.args.caller) s.3 ∙ sym (found (λ i. get_or col i (session 0 0)) c.args.caller s.0 None (c.in-default.ensures s.0 s.1 s.2)), s);
+          (ap (has_session c.args.caller) s.3 ∙ sym (found (λ i. get_or col i (session 0 0)) c.args.caller s.0 None (c.in_default.ensures s.0 s.1 s.2)), s);
       size = refl;
       same = λ _. refl;
     }
@@ -23,8 +23,8 @@ leave-requires c =
     let s = t.1 in
     (s.0, s.1, placed_as c.args.self.now.roster s.0 s.1 c.deref-mut.ensures.value c.deref-mut-2.ensures.value s.2, (c.in-Some.ensures s.0 s.1 s.2).0))
 
-pub invariant-of-self : goal.invariant-of-self
-invariant-of-self c =
+pub invariant_of-self : goal.invariant_of-self
+invariant_of-self c =
     let self = c.args.self.now in
     let slots = c.leave.new.slots in
     let rows = c.leave.new.rows in (

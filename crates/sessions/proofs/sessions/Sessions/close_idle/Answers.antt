@@ -6,15 +6,15 @@ use Rattle.sessions.proofs.Sweeps.{swept_all, swept_number}
 use Rattle.sessions.proofs.Shown.{shown_as, shown_back}
 use Rattle.sessions.proofs.sessions.Sessions.close_idle.Goals as goal
 
-pub close-idle-requires : goal.close-idle-requires
-close-idle-requires c = ∥∥₁_map c.args.self.now.ok (λ t. (t.0, shown_as c.args.self.now.roster t.0 c.deref-mut.ensures.value c.deref-mut-2.ensures.value t.1))
+pub close_idle-requires : goal.close_idle-requires
+close_idle-requires c = ∥∥₁_map c.args.self.now.ok (λ t. (t.0, shown_as c.args.self.now.roster t.0 c.deref-mut.ensures.value c.deref-mut-2.ensures.value t.1))
 
-pub invariant-of-self : goal.invariant-of-self
-invariant-of-self c =
+pub invariant_of-self : goal.invariant_of-self
+invariant_of-self c =
     let self = c.args.self.now in (
       ∥∥₁_map self.ok (λ t.
-          let n = c.close-idle.ensures.shown t.0 (shown_as self.roster t.0 c.deref-mut.ensures.value c.deref-mut-2.ensures.value t.1) in
-          (n.0, shown_back c.close-idle.new.self n.0 self.slots self.rows c.close-idle.new.slots c.close-idle.new.rows (omega arith) (omega arith) n.3)),
+          let n = c.close_idle.ensures.shown t.0 (shown_as self.roster t.0 c.deref-mut.ensures.value c.deref-mut-2.ensures.value t.1) in
+          (n.0, shown_back c.close_idle.new.self n.0 self.slots self.rows c.close_idle.new.slots c.close_idle.new.rows (omega arith) (omega arith) n.3)),
       tt,
     )
 
@@ -23,16 +23,16 @@ returns c =
     let self = c.args.self.now in
     record {
       stops = λ xs s.
-          let n = c.close-idle.ensures.shown xs (shown_as self.roster xs c.deref-mut.ensures.value c.deref-mut-2.ensures.value s) in
-          (n.0, n.1, n.2, shown_back c.close-idle.new.self n.0 self.slots self.rows c.close-idle.new.slots c.close-idle.new.rows (omega arith) (omega arith) n.3);
+          let n = c.close_idle.ensures.shown xs (shown_as self.roster xs c.deref-mut.ensures.value c.deref-mut-2.ensures.value s) in
+          (n.0, n.1, n.2, shown_back c.close_idle.new.self n.0 self.slots self.rows c.close_idle.new.slots c.close_idle.new.rows (omega arith) (omega arith) n.3);
       closes = λ xs s d.
-          let n = c.close-idle.ensures.shown xs (shown_as self.roster xs c.deref-mut.ensures.value c.deref-mut-2.ensures.value s) in
+          let n = c.close_idle.ensures.shown xs (shown_as self.roster xs c.deref-mut.ensures.value c.deref-mut-2.ensures.value s) in
           let second = c.args.second in
           let limit = c.args.limit in
-          let r = c.close-idle.result in (
-            shown_back c.close-idle.new.self _ self.slots self.rows c.close-idle.new.slots c.close-idle.new.rows (omega arith) (omega arith)
-                (subst (Shown c.close-idle.new.self c.close-idle.new.slots c.close-idle.new.rows) (swept_all second limit xs n.0 r n.1 n.2 d) n.3),
+          let r = c.close_idle.result in (
+            shown_back c.close_idle.new.self _ self.slots self.rows c.close_idle.new.slots c.close_idle.new.rows (omega arith) (omega arith)
+                (subst (Shown c.close_idle.new.self c.close_idle.new.slots c.close_idle.new.rows) (swept_all second limit xs n.0 r n.1 n.2 d) n.3),
             swept_number second limit xs n.0 r n.1 n.2 d,
           );
-      size = ap size c.close-idle.ensures.callers;
+      size = ap size c.close_idle.ensures.callers;
     }

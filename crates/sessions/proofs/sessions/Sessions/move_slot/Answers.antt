@@ -3,11 +3,11 @@ use mathlib.Core.Logic.{∥∥₁_map}
 use Rattle.sessions.proofs.Shown.{shown_as, shown_back}
 use Rattle.sessions.proofs.sessions.Sessions.move_slot.Goals as goal
 
-pub move-slot-requires : goal.move-slot-requires
-move-slot-requires c = ∥∥₁_map c.args.self.now.ok (λ t. (t.0, shown_as c.args.self.now.roster t.0 c.deref-mut.ensures.value c.deref-mut-2.ensures.value t.1))
+pub move_slot-requires : goal.move_slot-requires
+move_slot-requires c = ∥∥₁_map c.args.self.now.ok (λ t. (t.0, shown_as c.args.self.now.roster t.0 c.deref-mut.ensures.value c.deref-mut-2.ensures.value t.1))
 
-pub invariant-of-self : goal.invariant-of-self
-invariant-of-self c =
+pub invariant_of-self : goal.invariant_of-self
+invariant_of-self c =
     let self = c.args.self.now in (
       ∥∥₁_map self.ok (λ t. (
         t.0,

@@ -2,8 +2,8 @@ use Rattle.std.proofs.Common.{[], arith}
 use Rattle.sessions.proofs.Shown.{shown_back}
 use Rattle.sessions.proofs.sessions.Sessions.open.Goals as goal
 
-pub invariant-of-result : goal.invariant-of-result
-invariant-of-result c =
+pub invariant_of-result : goal.invariant_of-result
+invariant_of-result c =
     (∣ ([], shown_back c.open-roster.result [] c.args.slots c.args.rows c.open-roster.new.slots c.open-roster.new.rows (omega arith) (omega arith) c.open-roster.ensures.shown) ∣₁, tt)
 
 pub returns : goal.returns

@@ -10,12 +10,12 @@ use Rattle.sessions.specs.Admissions.{has_session}
 use Rattle.sessions.proofs.Shown.{placed_as, shown_as, found}
 use Rattle.sessions.proofs.sessions.Sessions.serve.Goals as goal
 
-pub returns-in-default : goal.returns-in-default
-returns-in-default c =
+pub returns-in_default : goal.returns-in_default
+returns-in_default c =
     let col = map session_of (vec_items c.args.self.now.rows) in
     record {
       shown = λ xs s.
-          (ap (has_session c.args.caller) s.3 ∙ sym (found (λ i. get_or col i (session 0 0)) c.args.caller s.0 None (c.in-default.ensures s.0 s.1 s.2)), s);
+          (ap (has_session c.args.caller) s.3 ∙ sym (found (λ i. get_or col i (session 0 0)) c.args.caller s.0 None (c.in_default.ensures s.0 s.1 s.2)), s);
       size = refl;
       same = λ _. refl;
     }
@@ -35,8 +35,8 @@ renew-requires c =
       ap (λ rows. (get_or (map session_of rows) c.in-Some.i (session 0 0)).caller) lent ∙ f.1,
     ))
 
-pub invariant-of-self : goal.invariant-of-self
-invariant-of-self c =
+pub invariant_of-self : goal.invariant_of-self
+invariant_of-self c =
     let self = c.args.self.now in
     let lent = c.deref-mut.ensures.value in (
       ∥∥₁_map self.ok (λ t.

@@ -10,8 +10,8 @@ use Rattle.slabs.proofs.class.Class.planned.Goals as goal
 pub returns : goal.returns
 returns c =
     record {
-      size_is = c.unwrap-or.ensures ∙ ap (λ o. unwrap_or o 0) c.size.ensures ∙ value_planned (λ s. s) (plan_sizes c.args.plan.now) c.args.class;
-      chunks_are = c.unwrap-or-2.ensures ∙ ap (λ o. unwrap_or o 0) c.chunks-per-page.ensures.value ∙ value_planned chunks_of (plan_sizes c.args.plan.now) c.args.class;
+      size_is = c.unwrap_or.ensures ∙ ap (λ o. unwrap_or o 0) c.size.ensures ∙ value_planned (λ s. s) (plan_sizes c.args.plan.now) c.args.class;
+      chunks_are = c.unwrap_or-2.ensures ∙ ap (λ o. unwrap_or o 0) c.chunks_per_page.ensures.value ∙ value_planned chunks_of (plan_sizes c.args.plan.now) c.args.class;
       no_pages = refl;
       no_rows = λ stand rows few. reads_as rows rows _ (same_three c.new-list.result no_list stand) refl refl (c.new-list.ensures (map (λ r. r.next) rows) (map (λ r. r.prev) rows) (omega (arith, length-map rows (λ r. r.next))));
       no_counts = λ stand. same_three 0 0 stand;

@@ -9,8 +9,8 @@ use Rattle.slabs.specs.Slabs.{rows_of, layout}
 use Rattle.slabs.proofs.Sounds.{row_within, class_few}
 use Rattle.slabs.proofs.slab.Slab.ahead_of.Goals as goal
 
-pub ahead-of-requires : goal.ahead-of-requires
-ahead-of-requires c =
+pub ahead_of-requires : goal.ahead_of-requires
+ahead_of-requires c =
     let s = c.args.self.now in
     omega (arith, ap length c.deref.ensures.value, row_within s c.requires c.args.i (class_at (layout s) c.args.i) Held (c.holds.ensures.0 c.if-holds.true))
 
@@ -21,7 +21,7 @@ returns-then-holds c = record {
       let i = c.args.i in
       let class = class_at (layout s) i in
       let list = list_at s.classes class Held in
-      c.ahead-of.ensures list a b
+      c.ahead_of.ensures list a b
       (subst (λ rows. RowsRead list rows (a ++ i ∷ b)) (sym c.deref.ensures.value)
       (subst (λ ids. RowsRead list (rows_of s) ids) e (f.reads class Held (class_few s c.requires i class Held held))));
   none = λ no. absurd (no (c.holds.ensures.0 c.if-holds.true));

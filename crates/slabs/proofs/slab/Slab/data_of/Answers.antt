@@ -13,8 +13,8 @@ row-row-requires c = record { sound = c.requires; held = c.holds.ensures.0 c.if-
 pub start-requires : goal.start-requires
 start-requires c = record { sound = c.requires; listed = rw (c.holds.ensures.0 c.if-not-holds.false) (omega arith) }
 
-pub overflow-add-at : goal.overflow-add-at
-overflow-add-at c =
+pub overflow_add-at : goal.overflow_add-at
+overflow_add-at c =
     let end = record_end c.args.self.now c.requires c.args.i (c.holds.ensures.0 c.if-not-holds.false) in
     let few = end.1 in
     omega (arith, end.0, c.row-row.ensures.key, c.start.ensures)

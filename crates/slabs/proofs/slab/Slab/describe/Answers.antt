@@ -7,15 +7,15 @@ use Rattle.slabs.specs.Records.{Described}
 use Rattle.slabs.proofs.Families.{family_as}
 use Rattle.slabs.proofs.slab.Slab.describe.Goals as goal
 
-pub describe-row-requires : goal.describe-row-requires
-describe-row-requires c = omega (arith, ap length c.deref-mut.ensures.value, c.requires)
+pub describe_row-requires : goal.describe_row-requires
+describe_row-requires c = omega (arith, ap length c.deref-mut.ensures.value, c.requires)
 
 pub returns : goal.returns
 returns c =
     let s = c.args.self.now in
     let lent = c.deref-mut.result.now in
-    let ws = c.describe-row.new.rows in
-    let told = c.describe-row.ensures in
+    let ws = c.describe_row.new.rows in
+    let told = c.describe_row.ensures in
     let is : lent ≡ vec_items s.rows = c.deref-mut.ensures.value in
     let lasts : length ws ≡ s.rows.len = omega (arith, ap length told.homes, length-map ws (λ r. r.home), length-map lent (λ r. r.home), c.deref-mut.ensures.len) in
     let out = with_items_is s.rows ws lasts in
@@ -23,5 +23,5 @@ returns c =
       lists = λ ls f. subst (λ rows. Family s.classes rows ls) (sym out) (family_as s.classes lent ws ls told.next told.prev told.homes (subst (λ rows. Family s.classes rows ls) (sym is) f));
       homes = ap homes out ∙ told.homes ∙ ap homes is;
       layout = refl;
-      described = subst (λ rows. Described (vec_items s.rows) rows c.args.i c.args.key-len c.args.data-len c.args.tag) (sym out) (subst (λ rows. Described rows ws c.args.i c.args.key-len c.args.data-len c.args.tag) is told.described);
+      described = subst (λ rows. Described (vec_items s.rows) rows c.args.i c.args.key_len c.args.data_len c.args.tag) (sym out) (subst (λ rows. Described rows ws c.args.i c.args.key_len c.args.data_len c.args.tag) is told.described);
     }

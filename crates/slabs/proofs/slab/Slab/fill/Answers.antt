@@ -12,8 +12,8 @@ use Rattle.slabs.proofs.Bytes.{chunk_kept}
 use Rattle.slabs.proofs.Telling.{span_sum, key_len_there, data_len_there, sound_described, described_rests, record_kept, record_there}
 use Rattle.slabs.proofs.slab.Slab.fill.Goals as goal
 
-pub write-record-requires : goal.write-record-requires
-write-record-requires c =
+pub write_record-requires : goal.write_record-requires
+write_record-requires c =
     let s = c.args.self.now in
     let i = c.args.grant.row in
     let some : 0 < get_or (homes_of s) i 0 = omega (arith, c.requires.granted) in
@@ -22,16 +22,16 @@ write-record-requires c =
     let size = size_of_class s c.requires.sound i c.args.grant.class Granted c.requires.granted in
     omega (arith, c.requires.fit.fits, c.requires.fit.wide, c.start-at.ensures)
 
-pub overflow-cast-key : goal.overflow-cast-key
-overflow-cast-key c =
+pub overflow_cast-key : goal.overflow_cast-key
+overflow_cast-key c =
     let s = c.args.self.now in
     let i = c.args.grant.row in
     let inside = chunk_inside s c.requires.sound i (omega (arith, c.requires.granted)) in
     let size = size_of_class s c.requires.sound i c.args.grant.class Granted c.requires.granted in
     omega (arith, c.requires.fit.fits)
 
-pub overflow-cast-block : goal.overflow-cast-block
-overflow-cast-block c =
+pub overflow_cast-block : goal.overflow_cast-block
+overflow_cast-block c =
     let s = c.args.self.now in
     let i = c.args.grant.row in
     let inside = chunk_inside s c.requires.sound i (omega (arith, c.requires.granted)) in
@@ -72,13 +72,13 @@ returns c =
     let key = c.args.key.now in
     let block = c.args.block.now in
     let memory = c.args.memory.now in
-    let memory' = c.write-record.new.memory in
+    let memory' = c.write_record.new.memory in
     let told = c.describe.ensures in
     let moved = c.shift.ensures in
     let within = listed_within s c.requires.sound i (omega (arith, c.requires.granted)) in
     let same = moved.shifted.layout ∙ told.layout in
     let described = described_rests (rows_of s) (rows_of m) (rows_of t) i (length key) (length block) c.args.tag moved.rests told.described in
-    let written : Written memory memory' (start (layout s) i) key block = subst (λ at. Written memory memory' at key block) c.start-at.ensures c.write-record.ensures in
+    let written : Written memory memory' (start (layout s) i) key block = subst (λ at. Written memory memory' at key block) c.start-at.ensures c.write_record.ensures in
     let chunk = chunk_there s c.requires.sound i class Granted c.requires.granted in
     let fits : length key + length block ≤ size_at (layout s) i = omega (arith, c.requires.fit.fits, size_of_class s c.requires.sound i class Granted c.requires.granted) in
     record {

@@ -36,8 +36,8 @@ returns-then-chunks-eq0 c =
       rests = refl;
     }
 
-pub overflow-mul-page : goal.overflow-mul-page
-overflow-mul-page c = omega (arith, pages_few c.args.self.now c.requires)
+pub overflow_mul-page : goal.overflow_mul-page
+overflow_mul-page c = omega (arith, pages_few c.args.self.now c.requires)
 
 pub stock-requires : goal.stock-requires
 stock-requires c =
@@ -58,8 +58,8 @@ stock-requires c =
       homeless = λ k lt. homeless s c.requires class few some free k (omega arith);
     }
 
-pub gain-page-requires : goal.gain-page-requires
-gain-page-requires c =
+pub gain_page-requires : goal.gain_page-requires
+gain_page-requires c =
     let s = c.args.self.now in
     let m = c.stock.new.self in
     let class = c.args.class in
@@ -90,8 +90,8 @@ returns c =
     let old = get_or m.classes class no_class in
     let new = with_share old (old.pages + 1) in
     let first = 85 * s.given in
-    let given : PageGiven s (record { rows = m.rows; classes = set m.classes class c.gain-page.new.self; owners = set m.owners s.given class; given = s.given + 1; pages = m.pages }) class =
-    subst (λ cls. PageGiven s (record { rows = m.rows; classes = set m.classes class cls; owners = set m.owners s.given class; given = s.given + 1; pages = m.pages }) class) (sym c.gain-page.ensures)
+    let given : PageGiven s (record { rows = m.rows; classes = set m.classes class c.gain_page.new.self; owners = set m.owners s.given class; given = s.given + 1; pages = m.pages }) class =
+    subst (λ cls. PageGiven s (record { rows = m.rows; classes = set m.classes class cls; owners = set m.owners s.given class; given = s.given + 1; pages = m.pages }) class) (sym c.gain_page.ensures)
     (record {
       lists = λ ls f. family_share m.classes class (old.pages + 1) within (rows_of m) (stocked first (get_or (layout s).chunks class 0) (free_of class) ls) (subst (λ n. Lists m (stocked first n (free_of class) ls)) (sym is) (told.lists ls f));
       homes = told.homes ∙ ap (λ n. filled first n (free_of class) (homes_of s)) (sym is);

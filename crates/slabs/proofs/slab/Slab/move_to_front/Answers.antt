@@ -11,10 +11,10 @@ use Rattle.slabs.proofs.slab.Slab.move_to_front.Goals as goal
 pub refresh-requires : goal.refresh-requires
 refresh-requires c =
     let s = c.args.self.now in
-    let home = c.holds.ensures.0 c.if-not-holds.false ∙ ap held_of (sym c.class-of-class.ensures.value) in
+    let home = c.holds.ensures.0 c.if-not-holds.false ∙ ap held_of (sym c.class_of-class.ensures.value) in
     record {
-      class = class_few s c.requires c.args.i c.class-of-class.result Held home;
-      within = row_within s c.requires c.args.i c.class-of-class.result Held home;
+      class = class_few s c.requires c.args.i c.class_of-class.result Held home;
+      within = row_within s c.requires c.args.i c.class_of-class.result Held home;
       lists = some_lists s c.requires;
       home = home;
     }
@@ -26,7 +26,7 @@ returns c =
     let told = c.refresh.ensures in
     let i = c.args.i in
     let moved : Reordered s t (to_front i (held_of (class_at (layout s) i))) =
-    subst (λ k. Reordered s t (to_front i (held_of k))) c.class-of-class.ensures.value
+    subst (λ k. Reordered s t (to_front i (held_of k))) c.class_of-class.ensures.value
     (record { lists = told.lists; homes = told.homes; rests = told.rests; layout = told.layout }) in
     record {
       sound = ∥∥₁_map c.requires (sound_front s t i (held_of (class_at (layout s) i)) (omega arith) (c.holds.ensures.0 c.if-not-holds.false) moved);

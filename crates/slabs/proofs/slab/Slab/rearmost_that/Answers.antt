@@ -44,8 +44,8 @@ loop-walked-preserved g c = λ ls f.
     let row = c.index.result.now in
     let fail : test i ≡ false = ap picked (get_or_default (rows_of s) i blank row (listed_within s c.requires i (omega arith)) ∙ sym c.index.ensures) ∙ sym c.picks.ensures ∙ c.if-picks.false in
     let there = ap (λ k. ls (held_of k)) (walk_class s c.requires class i n test w) in
-    walk_goes test (ls (held_of class)) n i c.ahead-of-at.result fail (w ls f)
-    (c.ahead-of-at.ensures.ahead held ls f (rear_parts (w ls f).ahead i (w ls f).at_is).0 (w ls f).behind (there ∙ walk_parts test (ls (held_of class)) n i (w ls f)))
+    walk_goes test (ls (held_of class)) n i c.ahead_of-at.result fail (w ls f)
+    (c.ahead_of-at.ensures.ahead held ls f (rear_parts (w ls f).ahead i (w ls f).at_is).0 (w ls f).behind (there ∙ walk_parts test (ls (held_of class)) n i (w ls f)))
 
 pub returns : goal.returns
 returns g c = λ ls f.

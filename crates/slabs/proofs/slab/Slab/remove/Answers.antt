@@ -8,7 +8,7 @@ pub shift-requires : goal.shift-requires
 shift-requires c =
     record {
       sound = c.requires;
-      home = c.holds.ensures.0 c.if-not-holds.false ∙ ap held_of (sym c.class-of-class.ensures.value);
+      home = c.holds.ensures.0 c.if-not-holds.false ∙ ap held_of (sym c.class_of-class.ensures.value);
       fits = λ e. absurd (omega arith);
     }
 
@@ -17,7 +17,7 @@ returns c =
     let told = c.shift.ensures in
     record {
       sound = told.sound;
-      removed = record { yes = λ _. (refl, subst (λ k. Shifted c.args.self.now c.shift.new.self c.args.i (held_of k) (free_of k)) c.class-of-class.ensures.value told.shifted); no = λ no. absurd (no (c.holds.ensures.0 c.if-not-holds.false)) };
+      removed = record { yes = λ _. (refl, subst (λ k. Shifted c.args.self.now c.shift.new.self c.args.i (held_of k) (free_of k)) c.class_of-class.ensures.value told.shifted); no = λ no. absurd (no (c.holds.ensures.0 c.if-not-holds.false)) };
       rests = told.rests;
     }
 

@@ -19,12 +19,12 @@ returns-then-class-ge-CLASSES c =
       rests = refl;
     }
 
-pub returns-in-default : goal.returns-in-default
-returns-in-default c =
+pub returns-in_default : goal.returns-in_default
+returns-in_default c =
     let s = c.args.self.now in
     record {
       sound = c.requires;
-      found = λ ls f. c.in-default.ensures (rows_of s) (ls (free_of c.args.class)) (f.reads c.args.class Free c.if-class-ge-CLASSES.false);
+      found = λ ls f. c.in_default.ensures (rows_of s) (ls (free_of c.args.class)) (f.reads c.args.class Free c.if-class-ge-CLASSES.false);
       taken = refl;
       rests = refl;
     }

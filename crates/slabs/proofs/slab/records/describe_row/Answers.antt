@@ -13,8 +13,8 @@ returns c =
       homes = column_kept (λ r. r.home) rows i blank _ c.requires refl;
       described =
           record {
-            key_lens_are = column_set (λ r. r.key_len) rows i _ c.args.key-len refl;
-            data_lens_are = column_set (λ r. r.data_len) rows i _ c.args.data-len refl;
+            key_lens_are = column_set (λ r. r.key_len) rows i _ c.args.key_len refl;
+            data_lens_are = column_set (λ r. r.data_len) rows i _ c.args.data_len refl;
             chains_stay = column_kept (λ r. r.chain) rows i blank _ c.requires refl;
             tags_are = column_set (λ r. r.tag) rows i _ c.args.tag refl;
           };

@@ -4,5 +4,5 @@ use Rattle.slabs.proofs.slab.records.write_record.Goals as goal
 
 pub returns : goal.returns
 returns c =
-    written c.args.memory.now c.args.key.now c.args.block.now c.copy-from-slice.new.self c.copy-from-slice-2.new.self c.args.at _ _
-    c.requires (omega arith) (omega arith) c.copy-from-slice.ensures.after c.copy-from-slice-2.ensures.after
+    written c.args.memory.now c.args.key.now c.args.block.now c.copy_from_slice.new.self c.copy_from_slice-2.new.self c.args.at _ _
+    c.requires (omega arith) (omega arith) c.copy_from_slice.ensures.after c.copy_from_slice-2.ensures.after

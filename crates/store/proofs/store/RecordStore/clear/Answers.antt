@@ -20,14 +20,14 @@ returns-in-Some c =
           subst (Shows setup n c.leave.new.self memory out) (ap (λ o. remove_any setup at Replaced o s) (sym is)) (c.leave.ensures.shown setup n memory out s at sh);
     }
 
-pub returns-in-default : goal.returns-in-default
-returns-in-default c =
+pub returns-in_default : goal.returns-in_default
+returns-in_default c =
     let memory = c.args.memory.now in
     let key = c.args.key.now in
     record {
       kept = record { layout = refl; table = refl; slots = refl; granted = λ i class g. g };
       grants = λ k class g. g;
       shown = λ setup n out s at sh.
-          let is : held key s ≡ None = c.in-default.ensures.found setup s.classes sh.records in
+          let is : held key s ≡ None = c.in_default.ensures.found setup s.classes sh.records in
           subst (Shows setup n c.args.self.now memory out) (ap (λ o. remove_any setup at Replaced o s) (sym is)) sh;
     }

@@ -8,11 +8,11 @@ use Rattle.store.proofs.store.RecordStore.evict.Goals as goal
 pub rearmost-requires : goal.rearmost-requires
 rearmost-requires c = record { standing = standing c.args.self.now }
 
-pub returns-in-default : goal.returns-in-default
-returns-in-default c =
+pub returns-in_default : goal.returns-in_default
+returns-in_default c =
     record {
       pages = refl;
-      shown = λ setup n memory s at sh num. (ap (λ o. rid setup at Evicted o s) (c.in-default.ensures.shown setup memory s.classes sh.records num), sh);
+      shown = λ setup n memory s at sh num. (ap (λ o. rid setup at Evicted o s) (c.in_default.ensures.shown setup memory s.classes sh.records num), sh);
     }
 
 pub returns : goal.returns

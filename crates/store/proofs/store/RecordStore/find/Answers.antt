@@ -11,14 +11,14 @@ use Rattle.store.proofs.store.RecordStore.find.Goals as goal
 pub find-requires : goal.find-requires
 find-requires c = record { standing = standing c.args.self.now; hash = c.requires.hash }
 
-pub returns-in-default : goal.returns-in-default
-returns-in-default c =
+pub returns-in_default : goal.returns-in_default
+returns-in_default c =
     let key = c.args.key.now in
     record {
       pages = refl;
       held = tt;
       shown = λ setup n s sh.
-          let none : held key s ≡ None = c.in-default.ensures.found setup s.classes sh.records in
+          let none : held key s ≡ None = c.in_default.ensures.found setup s.classes sh.records in
           let same = find_none setup c.args.second key s none in
           (subst (Shows setup n c.args.self.now c.args.memory.now None) (sym same) sh, ap (held key) same ∙ none);
     }
@@ -26,8 +26,8 @@ returns-in-default c =
 pub tag-tag-requires : goal.tag-tag-requires
 tag-tag-requires c = record { standing = standing c.args.self.now; held = c.in-Some.ensures.held }
 
-pub returns-then-is-dead : goal.returns-then-is-dead
-returns-then-is-dead c =
+pub returns-then-is_dead : goal.returns-then-is_dead
+returns-then-is_dead c =
     let key = c.args.key.now in
     let t = c.args.self.now.records.slab in
     let memory = c.args.memory.now in
@@ -37,7 +37,7 @@ returns-then-is-dead c =
       held = tt;
       shown = λ setup n s sh.
           let found : held key s ≡ Some r = c.in-Some.ensures.found setup s.classes sh.records in
-          let is : dead c.args.second r ≡ true = ap (λ tag. dead_at c.args.second tag.expiry) (sym c.tag-tag.ensures) ∙ sym c.is-dead.ensures ∙ c.if-is-dead.true in
+          let is : dead c.args.second r ≡ true = ap (λ tag. dead_at c.args.second tag.expiry) (sym c.tag-tag.ensures) ∙ sym c.is_dead.ensures ∙ c.if-is_dead.true in
           let same = find_dead setup c.args.second key s r found is in
           let after = c.leave.ensures.shown setup n memory None s c.args.second sh in
           (subst (Shows setup n c.leave.new.self memory None) (sym same) after, ap (held key) same ∙ none_left setup s sh.records.kept c.args.second Expired key r found);
@@ -54,7 +54,7 @@ returns c =
       held = c.in-Some.ensures.held;
       shown = λ setup n s sh.
           let found : held key s ≡ Some r = c.in-Some.ensures.found setup s.classes sh.records in
-          let is : dead c.args.second r ≡ false = ap (λ tag. dead_at c.args.second tag.expiry) (sym c.tag-tag.ensures) ∙ sym c.is-dead.ensures ∙ c.if-is-dead.false in
+          let is : dead c.args.second r ≡ false = ap (λ tag. dead_at c.args.second tag.expiry) (sym c.tag-tag.ensures) ∙ sym c.is_dead.ensures ∙ c.if-is_dead.false in
           let same = find_alive setup c.args.second key s r found is in
           (subst (Shows setup n c.args.self.now memory None) (sym same) sh, ap (held key) same ∙ found);
     }

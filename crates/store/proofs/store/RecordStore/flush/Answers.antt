@@ -8,12 +8,12 @@ loop-before-init c = (refl, λ setup n memory s at sh. record { left = s; same =
 
 pub loop-before-preserved : goal.loop-before-preserved
 loop-before-preserved c = (
-  c.flush-class.ensures.pages ∙ c.loop-before.invariant.0,
+  c.flush_class.ensures.pages ∙ c.loop-before.invariant.0,
   λ setup n memory s at sh.
       let f = c.loop-before.invariant.1 setup n memory s at sh in
       let all = ap length sh.sizes in
       let num : Numbered setup (c.loop-before.before + 1) = record { low = omega arith; high = omega (arith, c.loop-before-test.true, c.classes-classes.ensures) } in
-      flushed_on f (c.flush-class.ensures.shown setup n memory f.left at f.shown num f.emptied),
+      flushed_on f (c.flush_class.ensures.shown setup n memory f.left at f.shown num f.emptied),
 )
 
 pub returns : goal.returns

@@ -20,13 +20,13 @@ loop-gone-init c = (
 pub foremost-requires : goal.foremost-requires
 foremost-requires c = record { standing = standing c.loop-gone.self }
 
-pub returns-in-default : goal.returns-in-default
-returns-in-default c =
+pub returns-in_default : goal.returns-in_default
+returns-in_default c =
     record {
       pages = c.loop-gone.invariant.0;
       shown = λ setup n memory s at sh num emptied.
           let f = (c.loop-gone.invariant.1 setup n memory s at sh num emptied).0 in
-          one_emptied f (front_none (class_at c.args.class f.left.classes).records (c.in-default.ensures.shown setup memory f.left.classes f.shown.records num));
+          one_emptied f (front_none (class_at c.args.class f.left.classes).records (c.in_default.ensures.shown setup memory f.left.classes f.shown.records num));
     }
 
 pub loop-gone-preserved : goal.loop-gone-preserved

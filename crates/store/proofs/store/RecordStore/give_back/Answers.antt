@@ -4,16 +4,16 @@ use Rattle.store.proofs.Shown.{standing, stands_on, shown_as}
 use Rattle.store.proofs.Grants.{none_outstanding}
 use Rattle.store.proofs.store.RecordStore.give_back.Goals as goal
 
-pub give-back-requires : goal.give-back-requires
-give-back-requires c = record { standing = standing c.args.self.now; granted = c.requires.granted }
+pub give_back-requires : goal.give_back-requires
+give_back-requires c = record { standing = standing c.args.self.now; granted = c.requires.granted }
 
-pub invariant-of-self : goal.invariant-of-self
-invariant-of-self c = (stands_on c.args.self.now c.give-back.ensures.standing, tt)
+pub invariant_of-self : goal.invariant_of-self
+invariant_of-self c = (stands_on c.args.self.now c.give_back.ensures.standing, tt)
 
 pub returns : goal.returns
 returns c =
-    let done = c.give-back.ensures in
-    let new = c.give-back.new.self in
+    let done = c.give_back.ensures in
+    let new = c.give_back.new.self in
     record {
       pages = ap (λ l. l.pages) done.kept.layout;
       shown = λ setup n memory s sh.

@@ -3,11 +3,11 @@ use Rattle.store.proofs.Shown.{standing, stands_on}
 use Rattle.store.proofs.Grants.{made_given}
 use Rattle.store.proofs.store.RecordStore.give_page.Goals as goal
 
-pub give-page-requires : goal.give-page-requires
-give-page-requires c = record { standing = standing c.args.self.now }
+pub give_page-requires : goal.give_page-requires
+give_page-requires c = record { standing = standing c.args.self.now }
 
-pub invariant-of-self : goal.invariant-of-self
-invariant-of-self c = (stands_on c.args.self.now c.give_page.ensures.standing, tt)
+pub invariant_of-self : goal.invariant_of-self
+invariant_of-self c = (stands_on c.args.self.now c.give_page.ensures.standing, tt)
 
 pub returns : goal.returns
 returns c =

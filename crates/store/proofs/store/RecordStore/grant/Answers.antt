@@ -5,11 +5,11 @@ use Rattle.store.proofs.store.RecordStore.grant.Goals as goal
 
 pub returns : goal.returns
 returns g c =
-    let done = c.grant-room.ensures in
+    let done = c.grant_room.ensures in
     record {
       pages = done.pages;
       granted = done.granted;
       shown = λ setup n memory s few sh.
-          subst (λ evicting. Comes setup (λ k. granting setup evicting c.args.second k s) (class_of (c.args.key-len + c.args.data-len) setup.sizes) n c.grant-room.new.self memory s c.grant-room.result)
+          subst (λ evicting. Comes setup (λ k. granting setup evicting c.args.second k s) (class_of (c.args.key_len + c.args.data_len) setup.sizes) n c.grant_room.new.self memory s c.grant_room.result)
           c.evicts.ensures (done.shown setup n memory s sh);
     }

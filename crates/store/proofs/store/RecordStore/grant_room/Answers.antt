@@ -25,30 +25,30 @@ returns-in-Some-take c =
           (got.shown setup n memory s sh);
     }
 
-pub returns-then-not-make-room : goal.returns-then-not-make-room
-returns-then-not-make-room c =
-    let none = c.in-default-take.ensures in
+pub returns-then-not-make_room : goal.returns-then-not-make_room
+returns-then-not-make_room c =
+    let none = c.in_default-take.ensures in
     record {
-      pages = c.make-room.ensures.pages ∙ none.pages;
+      pages = c.make_room.ensures.pages ∙ none.pages;
       granted = tt;
       shown = λ setup n memory s sh.
-          let of = class_is (goal.at.returns-then-not-make-room c).In-Some setup sh.sizes in
+          let of = class_is (goal.at.returns-then-not-make_room c).In-Some setup sh.sizes in
           let full = none.room setup n memory s sh of.num of.fits in
-          let failed = c.if-not-make-room.ensures.shown setup n memory s (none.shown setup n memory s sh) of.num in
+          let failed = c.if-not-make_room.ensures.shown setup n memory s (none.shown setup n memory s sh) of.num in
           ((c.in-Some.class, of.is, granted_later of c.args.evicts c.args.second s full ∙ failed.0), failed.1);
     }
 
 pub returns-in-Some-take-2 : goal.returns-in-Some-take-2
 returns-in-Some-take-2 c =
-    let none = c.in-default-take.ensures in
+    let none = c.in_default-take.ensures in
     let got = c.in-Some-take-2.ensures in
     record {
-      pages = got.pages ∙ c.make-room.ensures.pages ∙ none.pages;
+      pages = got.pages ∙ c.make_room.ensures.pages ∙ none.pages;
       granted = (got.granted.1, got.granted.2);
       shown = λ setup n memory s sh.
           let of = class_is (goal.at.returns-in-Some-take-2 c).In-Some setup sh.sizes in
           let full = none.room setup n memory s sh of.num of.fits in
-          let made = c.if-not-make-room.ensures.shown setup n memory s (none.shown setup n memory s sh) of.num in
+          let made = c.if-not-make_room.ensures.shown setup n memory s (none.shown setup n memory s sh) of.num in
           comes_granted of c.args.evicts c.args.second s c.take-2.new.self c.in-Some-take-2.grant got.granted.0 made.0
           (granted_later of c.args.evicts c.args.second s full ∙ made.1)
           (got.shown setup n memory made.0 made.3);
@@ -56,13 +56,13 @@ returns-in-Some-take-2 c =
 
 pub returns-in-None : goal.returns-in-None
 returns-in-None c =
-    let none = c.in-default-take.ensures in
+    let none = c.in_default-take.ensures in
     let again = c.in-None.ensures in
     record {
-      pages = again.pages ∙ c.make-room.ensures.pages ∙ none.pages;
+      pages = again.pages ∙ c.make_room.ensures.pages ∙ none.pages;
       granted = tt;
       shown = λ setup n memory s sh.
           let of = class_is (goal.at.returns-in-None c).In-Some setup sh.sizes in
-          let made = c.if-not-make-room.ensures.shown setup n memory s (none.shown setup n memory s sh) of.num in
+          let made = c.if-not-make_room.ensures.shown setup n memory s (none.shown setup n memory s sh) of.num in
           absurd (false≢true (again.room setup n memory made.0 made.3 of.num of.fits ∙ made.2));
     }

@@ -3,11 +3,11 @@ use Rattle.store.proofs.Shown.{standing, stands_on}
 use Rattle.store.proofs.Links.{shown_grown}
 use Rattle.store.proofs.store.RecordStore.grow.Goals as goal
 
-pub grow-after-requires : goal.grow-after-requires
-grow-after-requires c = record { standing = standing c.args.self.now }
+pub grow_after-requires : goal.grow_after-requires
+grow_after-requires c = record { standing = standing c.args.self.now }
 
-pub invariant-of-self : goal.invariant-of-self
-invariant-of-self c = (stands_on c.args.self.now c.grow_after.ensures.standing, tt)
+pub invariant_of-self : goal.invariant_of-self
+invariant_of-self c = (stands_on c.args.self.now c.grow_after.ensures.standing, tt)
 
 pub returns : goal.returns
 returns c =

@@ -9,8 +9,8 @@ use Rattle.store.proofs.store.RecordStore.insert.Goals as goal
 pub put-requires : goal.put-requires
 put-requires c = record { standing = standing c.args.self.now; granted = c.requires.granted; fits = c.requires.fits; memory = c.requires.memory }
 
-pub invariant-of-self : goal.invariant-of-self
-invariant-of-self c = (stands_with c.args.self.now c.note-new.new.soonest c.put.ensures.standing c.note-new.auto.soonest, tt)
+pub invariant_of-self : goal.invariant_of-self
+invariant_of-self c = (stands_with c.args.self.now c.note_new.new.soonest c.put.ensures.standing c.note_new.auto.soonest, tt)
 
 pub returns : goal.returns
 returns c =
@@ -23,9 +23,9 @@ returns c =
     record {
       pages = ap (λ l. l.pages) done.kept.layout;
       shown = λ setup n s few of free sh.
-          let seconds = c.note-new.ensures ∙ noted_for t s grant sh few key block fresh of c.requires.fits c.saturating-add-need.result c.saturating-add-need.ensures in
-          let is = brought_new t s grant sh few key block fresh of c.saturating-add-self.result c.saturating-add-self.ensures c.args.hash in
-          shown_inserted t s grant sh few key block fresh of _ c.put.new.memory done.kept done.spent refl c.saturating-add-self.ensures c.stored.ensures seconds
+          let seconds = c.note_new.ensures ∙ noted_for t s grant sh few key block fresh of c.requires.fits c.saturating_add-need.result c.saturating_add-need.ensures in
+          let is = brought_new t s grant sh few key block fresh of c.saturating_add-self.result c.saturating_add-self.ensures c.args.hash in
+          shown_inserted t s grant sh few key block fresh of _ c.put.new.memory done.kept done.spent refl c.saturating_add-self.ensures c.stored.ensures seconds
           (subst (λ r. ShowsRecords setup c.put.new.self.slab c.put.new.memory (with_records grant.class (r ∷ (class_at grant.class s.classes).records) s.classes)) is
           (done.shown setup s.classes sh.records (num t s grant sh few key block fresh of) c.requires.hash (ap number_or_0 of) free));
     }

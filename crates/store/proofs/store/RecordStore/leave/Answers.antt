@@ -6,8 +6,8 @@ use Rattle.store.proofs.store.RecordStore.leave.Goals as goal
 pub unlink-requires : goal.unlink-requires
 unlink-requires c = record { standing = standing c.args.self.now; held = c.requires }
 
-pub invariant-of-self : goal.invariant-of-self
-invariant-of-self c = (stands_on c.args.self.now c.unlink.ensures.standing, tt)
+pub invariant_of-self : goal.invariant_of-self
+invariant_of-self c = (stands_on c.args.self.now c.unlink.ensures.standing, tt)
 
 pub returns : goal.returns
 returns c =

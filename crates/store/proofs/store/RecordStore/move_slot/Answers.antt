@@ -3,11 +3,11 @@ use Rattle.chained.specs.Growth.{move_one}
 use Rattle.store.proofs.Shown.{standing, stands_on, shown_as}
 use Rattle.store.proofs.store.RecordStore.move_slot.Goals as goal
 
-pub move-slot-requires : goal.move-slot-requires
-move-slot-requires c = record { standing = standing c.args.self.now }
+pub move_slot-requires : goal.move_slot-requires
+move_slot-requires c = record { standing = standing c.args.self.now }
 
-pub invariant-of-self : goal.invariant-of-self
-invariant-of-self c = (stands_on c.args.self.now c.move_slot.ensures.standing, tt)
+pub invariant_of-self : goal.invariant_of-self
+invariant_of-self c = (stands_on c.args.self.now c.move_slot.ensures.standing, tt)
 
 pub returns : goal.returns
 returns c =

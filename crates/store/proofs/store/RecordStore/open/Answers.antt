@@ -2,8 +2,8 @@ use Rattle.std.proofs.Common.{vec_len, sym, refl, ◌∙◌}
 use Rattle.store.proofs.Opens.{stands_opened, pages_served, shown_opened}
 use Rattle.store.proofs.store.RecordStore.open.Goals as goal
 
-pub invariant-of-result : goal.invariant-of-result
-invariant-of-result c = (stands_opened c.never.result _ c.never.ensures c.open-records.ensures.standing, tt)
+pub invariant_of-result : goal.invariant_of-result
+invariant_of-result c = (stands_opened c.never.result _ c.never.ensures c.open-records.ensures.standing, tt)
 
 pub returns : goal.returns
 returns c =

@@ -17,24 +17,24 @@ returns-then-self-class c =
       );
     }
 
-pub rearmost-dead-requires : goal.rearmost-dead-requires
-rearmost-dead-requires c = record { standing = standing c.args.self.now }
+pub rearmost_dead-requires : goal.rearmost_dead-requires
+rearmost_dead-requires c = record { standing = standing c.args.self.now }
 
-pub invariant-of-self : goal.invariant-of-self
-invariant-of-self c = (stands_with c.args.self.now _ (standing c.args.self.now) (length-set c.args.self.now.soonest c.args.class (c.from-in-default.result + 1)), tt)
+pub invariant_of-self : goal.invariant_of-self
+invariant_of-self c = (stands_with c.args.self.now _ (standing c.args.self.now) (length-set c.args.self.now.soonest c.args.class (c.from-in_default.result + 1)), tt)
 
-pub returns-in-default : goal.returns-in-default
-returns-in-default c =
+pub returns-in_default : goal.returns-in_default
+returns-in_default c =
     let t = c.args.self.now in
     let class = c.args.class in
     let second = c.args.second in
     record {
       pages = refl;
       shown = λ setup n memory s sh num.
-          let none : last (dead second) (class_at class s.classes).records ≡ None = c.in-default.ensures.shown setup memory s.classes sh.records num in (
+          let none : last (dead second) (class_at class s.classes).records ≡ None = c.in_default.ensures.shown setup memory s.classes sh.records num in (
             ap (λ o. rid setup second Expired o s) none,
             reseconded t _ s sh refl refl refl refl
-                (subst (λ x. Soon setup (set t.soonest class (x + 1)) s.classes) (sym c.from-in-default.ensures) (soon_next setup s.classes t.soonest sh.soon class second (has_second t class c.requires) none)),
+                (subst (λ x. Soon setup (set t.soonest class (x + 1)) s.classes) (sym c.from-in_default.ensures) (soon_next setup s.classes t.soonest sh.soon class second (has_second t class c.requires) none)),
           );
     }
 

@@ -8,18 +8,18 @@ use Rattle.store.proofs.store.RecordStore.use_record.Goals as goal
 pub tag-tag-requires : goal.tag-tag-requires
 tag-tag-requires g c = record { standing = standing c.args.self.now; held = c.requires.held }
 
-pub bring-to-front-requires : goal.bring-to-front-requires
-bring-to-front-requires g c = record { standing = standing c.args.self.now; held = c.requires.held }
+pub bring_to_front-requires : goal.bring_to_front-requires
+bring_to_front-requires g c = record { standing = standing c.args.self.now; held = c.requires.held }
 
-pub invariant-of-self : goal.invariant-of-self
-invariant-of-self g c = (stands_on c.args.self.now c.bring-to-front.ensures.standing, tt)
+pub invariant_of-self : goal.invariant_of-self
+invariant_of-self g c = (stands_on c.args.self.now c.bring_to_front.ensures.standing, tt)
 
 pub returns-then-moves : goal.returns-then-moves
 returns-then-moves g c =
     let t = c.args.self.now in
     let second = c.args.second in
     let moves = g.P.Policy.moving c.args.policy.now second in
-    let done = c.bring-to-front.ensures in
+    let done = c.bring_to_front.ensures in
     let yes = ap (λ tag. moves tag.moved) (sym c.tag-tag.ensures) ∙ sym c.moves.ensures ∙ c.if-moves.true in
     record {
       pages = ap (λ l. l.pages) done.kept.layout;
