@@ -80,12 +80,12 @@ impl Chains {
     /// Puts a row that is not in the table into it.
     pub fn insert<R: Chained>(&self, heads: &mut [u32], rows: &mut [R], i: u32)
         requires within { i < length rows.old }
-        requires outside { ∥ ((ids : List ℕ) × Keeps link_of hash_of self.now heads.old rows.old ids × (count i ids ≡ 0)) ∥₁ }
-        ensures held { (ids : List ℕ) → Keeps link_of hash_of self.now heads.old rows.old ids → count i ids ≡ 0 → Keeps link_of hash_of self.now heads.new rows.new (i ∷ ids) }
-        ensures rest { map bare rows.new ≡ map bare rows.old }
+        requires outside { ∥ ((ids : List ℕ) × Keeps R.link_of R.hash_of self.now heads.old rows.old ids × (count i ids ≡ 0)) ∥₁ }
+        ensures held { (ids : List ℕ) → Keeps R.link_of R.hash_of self.now heads.old rows.old ids → count i ids ≡ 0 → Keeps R.link_of R.hash_of self.now heads.new rows.new (i ∷ ids) }
+        ensures rest { map R.bare rows.new ≡ map R.bare rows.old }
         ensures others { (k : ℕ) (d : R) → (k ≢ i) → slice_index_or rows.new k d ≡ slice_index_or rows.old k d }
-        ensures past { (ids : List ℕ) → Keeps link_of hash_of self.now heads.old rows.old ids → count i ids ≡ 0 → (s : ℕ) → self.now.slots ≤ s → slice_index_or heads.new s none ≡ slice_index_or heads.old s none }
-        ensures keys { (key_of : ℕ → R → List ℕ) (ids : List ℕ) → ((k : ℕ) (row : R) → key_of k row ≡ key_of k (bare row)) → NewKey key_of rows.old ids i → OneRowAKey key_of rows.old ids → OneRowAKey key_of rows.new (i ∷ ids) }
+        ensures past { (ids : List ℕ) → Keeps R.link_of R.hash_of self.now heads.old rows.old ids → count i ids ≡ 0 → (s : ℕ) → self.now.slots ≤ s → slice_index_or heads.new s none ≡ slice_index_or heads.old s none }
+        ensures keys { (key_of : ℕ → R → List ℕ) (ids : List ℕ) → ((k : ℕ) (row : R) → key_of k row ≡ key_of k (R.bare row)) → NewKey key_of rows.old ids i → OneRowAKey key_of rows.old ids → OneRowAKey key_of rows.new (i ∷ ids) }
     {
         let home = self.slot_of(hash_of(rows, i)) as usize;
         aim(rows, i, heads[home]);
@@ -95,11 +95,11 @@ impl Chains {
     /// Takes a row out of the table.
     pub fn remove<R: Chained>(&self, heads: &mut [u32], rows: &mut [R], i: u32)
         requires within { i < length rows.old }
-        requires inside { ∥ ((ids : List ℕ) × Keeps link_of hash_of self.now heads.old rows.old ids × (count i ids ≡ 1)) ∥₁ }
-        ensures held { (ids : List ℕ) → Keeps link_of hash_of self.now heads.old rows.old ids → count i ids ≡ 1 → Keeps link_of hash_of self.now heads.new rows.new (without i ids) }
-        ensures rest { map bare rows.new ≡ map bare rows.old }
-        ensures outside { (ids : List ℕ) → Keeps link_of hash_of self.now heads.old rows.old ids → count i ids ≡ 1 → (k : ℕ) (d : R) → count k ids ≡ 0 → slice_index_or rows.new k d ≡ slice_index_or rows.old k d }
-        ensures past { (ids : List ℕ) → Keeps link_of hash_of self.now heads.old rows.old ids → count i ids ≡ 1 → (s : ℕ) → self.now.slots ≤ s → slice_index_or heads.new s none ≡ slice_index_or heads.old s none }
+        requires inside { ∥ ((ids : List ℕ) × Keeps R.link_of R.hash_of self.now heads.old rows.old ids × (count i ids ≡ 1)) ∥₁ }
+        ensures held { (ids : List ℕ) → Keeps R.link_of R.hash_of self.now heads.old rows.old ids → count i ids ≡ 1 → Keeps R.link_of R.hash_of self.now heads.new rows.new (without i ids) }
+        ensures rest { map R.bare rows.new ≡ map R.bare rows.old }
+        ensures outside { (ids : List ℕ) → Keeps R.link_of R.hash_of self.now heads.old rows.old ids → count i ids ≡ 1 → (k : ℕ) (d : R) → count k ids ≡ 0 → slice_index_or rows.new k d ≡ slice_index_or rows.old k d }
+        ensures past { (ids : List ℕ) → Keeps R.link_of R.hash_of self.now heads.old rows.old ids → count i ids ≡ 1 → (s : ℕ) → self.now.slots ≤ s → slice_index_or heads.new s none ≡ slice_index_or heads.old s none }
     {
         let home = self.slot_of(hash_of(rows, i)) as usize;
         let behind = link_of(rows, i);
@@ -120,8 +120,8 @@ impl Chains {
         keys: &C,
         key: &K,
     ) -> Option<u32>
-        requires { ∥ ((ids : List ℕ) × Keeps link_of hash_of self.now heads.now rows.now ids) ∥₁ }
-        ensures { (ids : List ℕ) → Keeps link_of hash_of self.now heads.now rows.now ids → MatchOption result (NoKey (key_of keys.now) hash_of hashed rows.now ids (wanted key.now)) (λ i. (count i ids ≡ 1) × HasKey (key_of keys.now) rows.now i (wanted key.now)) }
+        requires { ∥ ((ids : List ℕ) × Keeps R.link_of R.hash_of self.now heads.now rows.now ids) ∥₁ }
+        ensures { (ids : List ℕ) → Keeps R.link_of R.hash_of self.now heads.now rows.now ids → MatchOption result (NoKey (C.key_of keys.now) R.hash_of C.hashed rows.now ids (C.wanted key.now)) (λ i. (count i ids ≡ 1) × HasKey (C.key_of keys.now) rows.now i (C.wanted key.now)) }
     {
         let hash = keys.hash(key);
         let home = self.slot_of(hash) as usize;
@@ -152,11 +152,11 @@ impl Chains {
 
     /// Moves the rows of one old slot to where they belong among twice as many, if an old slot is left.
     pub fn move_one<R: Chained>(&mut self, heads: &mut [u32], rows: &mut [R])
-        requires { ∥ ((ids : List ℕ) × Keeps link_of hash_of self.old heads.old rows.old ids) ∥₁ }
+        requires { ∥ ((ids : List ℕ) × Keeps R.link_of R.hash_of self.old heads.old rows.old ids) ∥₁ }
         ensures moved { size self.new ≡ move_one (size self.old) }
-        ensures held { (ids : List ℕ) → Keeps link_of hash_of self.old heads.old rows.old ids → Keeps link_of hash_of self.new heads.new rows.new ids }
-        ensures rest { map bare rows.new ≡ map bare rows.old }
-        ensures past { (ids : List ℕ) → Keeps link_of hash_of self.old heads.old rows.old ids → (s : ℕ) → self.old.slots ≤ s → slice_index_or heads.new s none ≡ slice_index_or heads.old s none }
+        ensures held { (ids : List ℕ) → Keeps R.link_of R.hash_of self.old heads.old rows.old ids → Keeps R.link_of R.hash_of self.new heads.new rows.new ids }
+        ensures rest { map R.bare rows.new ≡ map R.bare rows.old }
+        ensures past { (ids : List ℕ) → Keeps R.link_of R.hash_of self.old heads.old rows.old ids → (s : ℕ) → self.old.slots ≤ s → slice_index_or heads.new s none ≡ slice_index_or heads.old s none }
     {
         if self.unmoved > 0 {
             self.unmoved -= 1;
@@ -169,9 +169,9 @@ impl Chains {
 
     // Puts the rows of a chain that was cut off the table into it again, one by one.
     fn insert_all<R: Chained>(&self, heads: &mut [u32], rows: &mut [R], first: u32)
-        requires { ∥ ((ids : List ℕ) × (rest : List ℕ) × Keeps link_of hash_of self.now heads.old rows.old ids × Chain (map link_of rows.old) first rest × Apart rest ids) ∥₁ }
-        ensures held { (ids rest : List ℕ) → Keeps link_of hash_of self.now heads.old rows.old ids → Chain (map link_of rows.old) first rest → Apart rest ids → Keeps link_of hash_of self.now heads.new rows.new (poured rest ids) }
-        ensures rest { map bare rows.new ≡ map bare rows.old }
+        requires { ∥ ((ids : List ℕ) × (rest : List ℕ) × Keeps R.link_of R.hash_of self.now heads.old rows.old ids × Chain (map R.link_of rows.old) first rest × Apart rest ids) ∥₁ }
+        ensures held { (ids rest : List ℕ) → Keeps R.link_of R.hash_of self.now heads.old rows.old ids → Chain (map R.link_of rows.old) first rest → Apart rest ids → Keeps R.link_of R.hash_of self.now heads.new rows.new (poured rest ids) }
+        ensures rest { map R.bare rows.new ≡ map R.bare rows.old }
     {
         let mut at = first;
         while at != NONE {
@@ -185,7 +185,7 @@ impl Chains {
 // The link of a row.
 fn link_of<R: Chained>(rows: &[R], i: u32) -> u32
     requires { i < length rows.now }
-    ensures { result ≡ slice_index_or (map link_of rows.now) i none }
+    ensures { result ≡ slice_index_or (map R.link_of rows.now) i none }
 {
     rows[i as usize].link()
 }
@@ -193,7 +193,7 @@ fn link_of<R: Chained>(rows: &[R], i: u32) -> u32
 // The hash of a row.
 fn hash_of<R: Chained>(rows: &[R], i: u32) -> u32
     requires { i < length rows.now }
-    ensures { result ≡ slice_index (map hash_of rows.now) i }
+    ensures { result ≡ slice_index (map R.hash_of rows.now) i }
 {
     rows[i as usize].hash()
 }
@@ -201,9 +201,9 @@ fn hash_of<R: Chained>(rows: &[R], i: u32) -> u32
 // Aims a row's link, and leaves the rest of it.
 fn aim<R: Chained>(rows: &mut [R], i: u32, to: u32)
     requires { i < length rows.old }
-    ensures links { map link_of rows.new ≡ slice_set (map link_of rows.old) i to }
-    ensures hashes { map hash_of rows.new ≡ map hash_of rows.old }
-    ensures rest { map bare rows.new ≡ map bare rows.old }
+    ensures links { map R.link_of rows.new ≡ slice_set (map R.link_of rows.old) i to }
+    ensures hashes { map R.hash_of rows.new ≡ map R.hash_of rows.old }
+    ensures rest { map R.bare rows.new ≡ map R.bare rows.old }
     ensures others { (k : ℕ) (d : R) → (k ≢ i) → slice_index_or rows.new k d ≡ slice_index_or rows.old k d }
 {
     rows[i as usize].set_link(to);
@@ -213,10 +213,10 @@ fn aim<R: Chained>(rows: &mut [R], i: u32, to: u32)
 fn ahead_of<R: Chained>(rows: &[R], first: u32, i: u32) -> u32
     requires few { length rows.now ≤ none }
     requires later { first ≢ i }
-    requires inside { ∥ ((chain : List ℕ) × Chain (map link_of rows.now) first chain × ((k : ℕ) → count k chain ≤ 1) × (count i chain ≡ 1)) ∥₁ }
+    requires inside { ∥ ((chain : List ℕ) × Chain (map R.link_of rows.now) first chain × ((k : ℕ) → count k chain ≤ 1) × (count i chain ≡ 1)) ∥₁ }
     ensures within { result < length rows.now }
-    ensures names { slice_index_or (map link_of rows.now) result none ≡ i }
-    ensures among { (chain : List ℕ) → Chain (map link_of rows.now) first chain → ((k : ℕ) → count k chain ≤ 1) → count i chain ≡ 1 → count result chain ≡ 1 }
+    ensures names { slice_index_or (map R.link_of rows.now) result none ≡ i }
+    ensures among { (chain : List ℕ) → Chain (map R.link_of rows.now) first chain → ((k : ℕ) → count k chain ≤ 1) → count i chain ≡ 1 → count result chain ≡ 1 }
 {
     let mut at = first;
     let mut next = link_of(rows, at);
