@@ -1,8 +1,8 @@
 -- The slot of a hash, while the table grows.
-use Rattle.std.proofs.Common.{◌≡◌, ℕ, ◌+◌, ◌-◌, ◌*◌, ◌/◌, ◌%◌, ◌<◌, ◌≤◌, cond, ◌&&◌, eqb, ltb, leb, sym, refl, ap, ◌∙◌, mod-lt, arith}
+use Rattle.std.proofs.Common.{◌≡◌, ℕ, ◌-◌, ◌*◌, ◌/◌, ◌%◌, ◌<◌, ◌≤◌, cond, ◌&&◌, eqb, ltb, leb, sym, ap, ◌∙◌, mod-lt, arith}
 use Rattle.std.proofs.lemmas.Bool.{cond-true, and_from, lt-ltb, eq-eqb, le-leb}
 use Rattle.std.proofs.lemmas.Bool.Decides.{nat_tests}
-use Rattle.chained.specs.Growth.{slot, move_one, grow_after, doubles}
+use Rattle.chained.specs.Growth.{slot, grow_after, doubles}
 
 -- the slot of a hash is one of those in use
 pub slot_below : (slots unmoved h : ℕ) → 16 ≤ slots → unmoved ≤ slots / 2 → slot (slots, unmoved) h < slots

@@ -1,4 +1,5 @@
 //! A hash table over rows and slots that their owner holds. It allocates nothing, and it grows one slot at a time.
+#![tactic(auto)]
 
 mod fnv;
 mod keys;

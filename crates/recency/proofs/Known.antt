@@ -1,7 +1,6 @@
 -- What a list that is known to be sound, and no more, tells of its rows; and lists under equations of their parts.
-use Rattle.std.proofs.Common.{◌≡◌, ℕ, ◌<◌, ◌≤◌, cond, eqb, List, [], ◌∷◌, ◌++◌, map, length, get_or, set, Some, None, Option, sym, refl, ap, ◌∙◌, subst, inl, inr, ⊎_elim, arith}
+use Rattle.std.proofs.Common.{◌≡◌, ℕ, ◌<◌, ◌≤◌, cond, eqb, List, [], ◌∷◌, ◌++◌, map, length, get_or, Some, None, sym, ap, ◌∙◌, arith}
 use native.Mathlib.Bridge.{le_prop}
-use mathlib.Core.HLevel.{Π_prop}
 use mathlib.Core.Logic.{∥∥₁_elim}
 use lib.ListN.{length-map}
 use Rattle.std.proofs.lemmas.List.{get_or-map}
@@ -9,8 +8,8 @@ use Rattle.std.proofs.lemmas.Bool.{cond-false, ne_eqb}
 use Rattle.recency.specs.Numbers.{none, count}
 use Rattle.recency.specs.Lists.{first, last, Nexts, Listed, foremost, rearmost}
 use Rattle.recency.proofs.Counts.{count_append}
-use Rattle.recency.proofs.Links.{last_in, nexts_split, nexts_unique}
-use Rattle.recency.proofs.Steps.{Near, near_within, in_range, front_near, spot, ahead_is, behind_is}
+use Rattle.recency.proofs.Links.{last_in, nexts_unique}
+use Rattle.recency.proofs.Steps.{near_within, in_range, spot}
 
 pub few_of : {P : List ℕ → Type 0} (front back : ℕ) (next prev : List ℕ) → ∥ ((ids : List ℕ) × Listed front back next prev ids × P ids) ∥₁ → length next ≤ none
 few_of front back next prev t = ∥∥₁_elim t le_prop (λ s. s.1.few)

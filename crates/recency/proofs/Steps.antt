@@ -1,13 +1,13 @@
 -- What a push to the front and an unlinking leave of a list, of the rows outside, and of the other lists.
-use Rattle.std.proofs.Common.{◌≡◌, ℕ, ◌+◌, ◌<◌, ◌≤◌, Bool, true, false, cond, eqb, ◌⊎◌, List, [], ◌∷◌, ◌++◌, map, length, get_or, set, sym, refl, ap, ◌∙◌, subst, inl, inr, ⊎_elim, arith, length-set}
+use Rattle.std.proofs.Common.{◌≡◌, ℕ, ◌<◌, ◌≤◌, cond, eqb, ◌⊎◌, List, [], ◌∷◌, ◌++◌, map, length, get_or, set, sym, refl, ap, ◌∙◌, subst, inl, inr, ⊎_elim, arith, length-set}
 use lib.ListN.{length-map}
 use Rattle.std.proofs.lemmas.List.{append-nil, get_or-set_other, set_past, get_or-map, get_or_past}
 use Rattle.std.proofs.lemmas.Bool.{cases_lt}
 use Rattle.std.proofs.lemmas.Bool.Decides.{nat_tests}
 use Rattle.recency.specs.Numbers.{none, count, without, Apart}
-use Rattle.recency.specs.Lists.{first, last, Nexts, Prevs, Listed}
+use Rattle.recency.specs.Lists.{first, last, Nexts, Listed}
 use Rattle.recency.proofs.Counts.{count_append, split, without_split}
-use Rattle.recency.proofs.Links.{last_in, present_head, nexts_set, nexts_split, nexts_within, nexts_join, prevs_set, prevs_split, prevs_within, prevs_join, first_append, last_append}
+use Rattle.recency.proofs.Links.{last_in, present_head, nexts_set, nexts_split, nexts_within, nexts_join, prevs_set, prevs_split, prevs_join, last_append}
 
 -- a neighbour in a list: one of its rows, or none
 pub Near : ℕ → List ℕ → Type 0

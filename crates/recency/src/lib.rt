@@ -1,5 +1,6 @@
 //! A doubly linked list over rows that their owner holds: the front is what was used last.
 //! A row's place in the list is in the row, so a list allocates nothing and each step takes constant time.
+#![tactic(auto)]
 
 ghost use Rattle.std.specs.Prelude.{◌≡◌, ℕ, ◌+◌, ◌<◌, ◌≤◌, List, [], ◌∷◌, ◌++◌, map, length, if◌then◌else◌, Some, None, ◌≢◌, nat_eq, slice_index_or, slice_set};
 ghost use Rattle.recency.specs.Numbers.{none, count, without, Apart};

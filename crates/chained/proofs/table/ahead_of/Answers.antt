@@ -1,4 +1,4 @@
-use Rattle.std.proofs.Common.{◌<◌, ◌≤◌, map, length, sym, ◌∙◌, subst, arith}
+use Rattle.std.proofs.Common.{◌≤◌, map, length, sym, ◌∙◌, subst, arith}
 use lib.ListN.{length-map}
 use Rattle.recency.specs.Numbers.{none}
 use Rattle.chained.proofs.Searches.{Toward, toward_start, toward_more, toward_within, toward_less, toward_among}

@@ -1,6 +1,5 @@
 use Rattle.std.proofs.Common.{sym, ap, ◌∙◌}
 use Rattle.std.proofs.lemmas.List.{get_or-map}
-use Rattle.recency.specs.Numbers.{none}
 use Rattle.chained.proofs.table.hash_of.Goals as goal
 
 pub returns : goal.returns

@@ -1,7 +1,6 @@
-use Rattle.std.proofs.Common.{[], ap, ◌∙◌}
+use Rattle.std.proofs.Common.{[], ◌∙◌}
 use Rattle.std.proofs.lemmas.List.{append-nil}
 use Rattle.recency.specs.Numbers.{none}
-use Rattle.recency.specs.Lists.{Nexts}
 use Rattle.recency.proofs.Known.{shown_rear}
 use Rattle.recency.proofs.RecencyList.back.Goals as goal
 

@@ -1,6 +1,6 @@
-use Rattle.std.proofs.Common.{ℕ, cond, eqb, List, ◌∷◌, map, length, get_or, set, sym, refl, ap, ◌∙◌, arith, length-set}
+use Rattle.std.proofs.Common.{cond, eqb, ◌∷◌, map, length, get_or, set, refl, ap, ◌∙◌, arith}
 use lib.ListN.{length-map}
-use Rattle.recency.specs.Numbers.{none, count}
+use Rattle.recency.specs.Numbers.{none}
 use Rattle.recency.proofs.Known.{few_of, front_within, listed_as, columns_even}
 use Rattle.recency.proofs.Steps.{pushed, pushed_others, pushed_nexts, pushed_prevs, row_same}
 use Rattle.recency.proofs.RecencyList.push_front.Goals as goal

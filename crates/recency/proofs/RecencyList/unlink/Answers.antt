@@ -1,4 +1,4 @@
-use Rattle.std.proofs.Common.{ℕ, List, map, get_or, refl, ap, ◌∙◌, arith}
+use Rattle.std.proofs.Common.{map, get_or, refl, ap, ◌∙◌, arith}
 use lib.ListN.{length-map}
 use Rattle.recency.specs.Numbers.{none}
 use Rattle.recency.proofs.Known.{few_of, p_within, n_within, listed_as, columns_even, link_is}

@@ -1,9 +1,8 @@
-use Rattle.std.proofs.Common.{◌≡◌, ℕ, ◌<◌, List, map, length, get_or, sym, refl, ap, ◌∙◌, subst, arith}
+use Rattle.std.proofs.Common.{◌≡◌, ◌<◌, map, length, get_or, sym, ap, ◌∙◌, subst, arith}
 use lib.ListN.{length-map}
 use Rattle.std.proofs.lemmas.List.{get_or_default, get_or-map}
 use Rattle.std.proofs.lemmas.Bool.{both_ways}
-use Rattle.recency.specs.Numbers.{none, count}
-use Rattle.chained.specs.Growth.{slot}
+use Rattle.recency.specs.Numbers.{none}
 use Rattle.chained.specs.Chains.{size}
 use Rattle.chained.proofs.Sound.{least_of, home_of}
 use Rattle.chained.proofs.Searches.{Ahead, Unlike, ahead_start, ahead_more, ahead_none, ahead_held, held_within, met_within, met_less}

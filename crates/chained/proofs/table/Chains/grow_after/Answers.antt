@@ -1,5 +1,5 @@
 use native.Mathlib.Bridge.{le_prop}
-use Rattle.std.proofs.Common.{◌*◌, ◌<◌, ◌≤◌, length, subst, arith}
+use Rattle.std.proofs.Common.{◌≤◌, length, subst, arith}
 use mathlib.Core.Logic.{∥∥₁_elim}
 use Rattle.chained.specs.Chains.{Holds}
 use Rattle.chained.proofs.Changes.{doubled}

@@ -1,8 +1,8 @@
 use native.Mathlib.Bridge.{le_prop}
-use Rattle.std.proofs.Common.{◌≡◌, ℕ, ◌<◌, List, ◌∷◌, map, length, get_or, sym, refl, ap, ◌∙◌, arith}
+use Rattle.std.proofs.Common.{◌≡◌, ℕ, ◌<◌, map, length, get_or, sym, refl, ap, ◌∙◌, arith}
 use mathlib.Core.Logic.{∥∥₁_elim, ∥∥₁_map}
 use lib.ListN.{length-map}
-use Rattle.recency.specs.Numbers.{none, count}
+use Rattle.recency.specs.Numbers.{none}
 use Rattle.chained.specs.Chains.{poured, size}
 use Rattle.chained.proofs.Moves.{pour_end, pour_within, pour_out, pour_less, pour_more, column_agree}
 use Rattle.chained.proofs.table.Chains.insert_all.Goals as goal

@@ -1,5 +1,5 @@
 use native.Mathlib.Bridge.{le_prop}
-use Rattle.std.proofs.Common.{ℕ, ◌-◌, ◌<◌, List, map, length, get_or, sym, refl, subst, arith}
+use Rattle.std.proofs.Common.{ℕ, ◌-◌, ◌<◌, List, map, length, sym, refl, subst}
 use mathlib.Core.Logic.{∥∥₁_elim, ∥∥₁_map}
 use Rattle.std.proofs.lemmas.List.{get_or_default}
 use Rattle.recency.specs.Numbers.{none}
