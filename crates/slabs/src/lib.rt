@@ -11,5 +11,5 @@ mod walk;
 pub use grant::Grant;
 pub use laws::laws_stand;
 pub use row::{Row, Tag};
-pub use slabs::{Slab, Tally};
+pub use slab::{Slab, Tally};
 pub use walk::RowTest;
