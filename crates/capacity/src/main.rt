@@ -1,4 +1,6 @@
 // How many pages a table needs for the records that a customer has.
+#![tactic(auto)]
+
 mod arguments;
 mod columns;
 mod kinds;

@@ -1,4 +1,6 @@
 // A plan: the sizes of the chunks that pages are cut into, and the class of each record.
+#![tactic(auto)]
+
 mod examples;
 mod needs;
 mod plan;

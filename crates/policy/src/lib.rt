@@ -1,4 +1,6 @@
 // When a use moves a record to the front, and whether a full class pushes records out.
+#![tactic(auto)]
+
 ghost use Rattle.std.specs.Prelude.{ℕ, ◌≡◌, Bool};
 ghost use Rattle.policy.specs.Meaning.{meaning};
 

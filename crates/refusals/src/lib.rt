@@ -1,4 +1,6 @@
 // Every refusal that a call can answer, each with the number that the caller sees.
+#![tactic(auto)]
+
 ghost use Rattle.std.specs.Prelude.{◌≡◌};
 ghost use Rattle.refusals.specs.Numbers.{number_of};
 

@@ -1,6 +1,6 @@
 -- What a caller of the writer cites: room for every reply that the table can give, and a reply made up of its lines.
 use Rattle.std.proofs.Common.{◌≡◌, ◌+◌, ◌<◌, ◌≤◌, Bool, List, [], ◌∷◌, ◌++◌, length, take, drop, sym, refl, ap, ◌∙◌, subst, arith}
-use Rattle.std.specs.List.{flat_map, AllByRecursion as All}
+use Rattle.std.specs.List.{flat_map, AllByRecursion}
 use Rattle.std.proofs.lemmas.List.{append-nil, take-append-drop, flat_map_more}
 use Rattle.replies.specs.declared.output.Writer.{Writer}
 use Rattle.replies.specs.Reply.{Shown, Reply, Values}
@@ -20,14 +20,14 @@ pub room_reply : (r : Reply) {u : Writer} → Fair r → Fresh u → Room (rende
 room_reply r {u} fair start = omega (arith, every_reply_fits r fair, start.empty, start.large)
 
 -- behind up to three records there is room for one more
-pub room_value : (numbered : Bool) (xs : List Shown) (s : Shown) {u v : Writer} → length xs < 4 → All FairShown xs → FairShown s → Fresh u → Wrote (flat_map (value_lines numbered) xs) u v → Room (value_lines numbered s) v
+pub room_value : (numbered : Bool) (xs : List Shown) (s : Shown) {u v : Writer} → length xs < 4 → AllByRecursion FairShown xs → FairShown s → Fresh u → Wrote (flat_map (value_lines numbered) xs) u v → Room (value_lines numbered s) v
 room_value numbered xs s {u} {v} few fair one start p =
     let a = values_short numbered xs fair in
     let b = value_short numbered s one in
     omega (arith, start.empty, start.large, p.count, p.size)
 
 -- behind up to four there is room for END
-pub room_end : (numbered : Bool) (xs : List Shown) {u v : Writer} → length xs ≤ 4 → All FairShown xs → Fresh u → Wrote (flat_map (value_lines numbered) xs) u v → Room end_line v
+pub room_end : (numbered : Bool) (xs : List Shown) {u v : Writer} → length xs ≤ 4 → AllByRecursion FairShown xs → Fresh u → Wrote (flat_map (value_lines numbered) xs) u v → Room end_line v
 room_end numbered xs {u} {v} few fair start p =
     let a = values_short numbered xs fair in
     omega (arith, start.empty, start.large, p.count, p.size)

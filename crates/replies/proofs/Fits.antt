@@ -1,6 +1,6 @@
 -- Every reply that the table can give fits 18,432 bytes.
 use Rattle.std.proofs.Common.{ℕ, ◌+◌, ◌*◌, ◌^◌, ◌<◌, ◌≤◌, Bool, true, false, List, [], ◌∷◌, ◌++◌, length, codes, decimal, arith, lit≤}
-use Rattle.std.specs.List.{flat_map, AllByRecursion as All}
+use Rattle.std.specs.List.{flat_map, AllByRecursion}
 use Rattle.std.proofs.lemmas.List.{length-append}
 use Rattle.std.proofs.lemmas.Fmt.{length-decimal-le}
 use Rattle.replies.specs.declared.kinds.Text.{Text}
@@ -29,7 +29,7 @@ value_short numbered s f =
     let cas = cas_short numbered s.cas f.cas in
     omega (arith, f.page)
 
-pub values_short : (numbered : Bool) (xs : List Shown) → All FairShown xs → length (flat_map (value_lines numbered) xs) ≤ 4143 * length xs
+pub values_short : (numbered : Bool) (xs : List Shown) → AllByRecursion FairShown xs → length (flat_map (value_lines numbered) xs) ≤ 4143 * length xs
 values_short numbered [] all = omega arith
 values_short numbered (s ∷ xs) all =
     let one = value_short numbered s all.0 in

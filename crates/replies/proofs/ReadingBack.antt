@@ -1,7 +1,7 @@
 -- The bytes of a get's reply are read back.
 use Rattle.std.proofs.Common.{◌≡◌, ℕ, zero, suc, ◌+◌, ◌^◌, ◌<◌, ◌≤◌, Bool, true, false, ltb, List, [], ◌∷◌, ◌++◌, map, length, take, drop, Some, codes, decimal, sym, refl, ap, ◌∙◌, arith, rules}
 use Rattle.std.specs.Str.Parse.{digits_value, AllDigits}
-use Rattle.std.specs.List.{flat_map, AllByRecursion as All}
+use Rattle.std.specs.List.{flat_map, AllByRecursion}
 use Rattle.std.proofs.lemmas.List.{append_assoc, length-append, take_at, drop_at, drop-drop}
 use Rattle.std.proofs.lemmas.Fmt.{decimal_is_IsNumeral}
 use Rattle.std.proofs.lemmas.Str.Parse.{digit_from_value}
@@ -15,20 +15,20 @@ goes_on : (b : ℕ) → 32 < b → ltb b 33 ≡ false
 goes_on b h = search rules
 
 -- a word is read up to the byte that ends it
-word_at : (ws : List ℕ) (e : ℕ) (rest : List ℕ) → All (λ b. 32 < b) ws → ltb e 33 ≡ true → word (ws ++ (e ∷ rest)) ≡ ws
+word_at : (ws : List ℕ) (e : ℕ) (rest : List ℕ) → AllByRecursion (λ b. 32 < b) ws → ltb e 33 ≡ true → word (ws ++ (e ∷ rest)) ≡ ws
 word_at [] e rest all ends = rw ends
 word_at (b ∷ ws) e rest all ends = rw (goes_on b all.0) (ap (λ xs. b ∷ xs) (word_at ws e rest all.1 ends))
 
-past_at : (ws : List ℕ) (e : ℕ) (rest : List ℕ) → All (λ b. 32 < b) ws → ltb e 33 ≡ true → past (ws ++ (e ∷ rest)) ≡ rest
+past_at : (ws : List ℕ) (e : ℕ) (rest : List ℕ) → AllByRecursion (λ b. 32 < b) ws → ltb e 33 ≡ true → past (ws ++ (e ∷ rest)) ≡ rest
 past_at [] e rest all ends = rw ends
 past_at (b ∷ ws) e rest all ends = rw (goes_on b all.0) (past_at ws e rest all.1 ends)
 
 -- digits are part of a word
-digits_plain : (ds : List ℕ) → AllDigits 10 ds → All (λ b. 32 < b) ds
+digits_plain : (ds : List ℕ) → AllDigits 10 ds → AllByRecursion (λ b. 32 < b) ds
 digits_plain [] d = tt
 digits_plain (c ∷ cs) d = (omega (arith, digit_from_value c d.0), digits_plain cs d.1)
 
-number_plain : (n : ℕ) → n < 2 ^ 64 → All (λ b. 32 < b) (decimal n)
+number_plain : (n : ℕ) → n < 2 ^ 64 → AllByRecursion (λ b. 32 < b) (decimal n)
 number_plain n h = digits_plain (decimal n) (decimal_is_IsNumeral n h).0.1
 
 -- a number is read back, and what stands behind it
@@ -118,7 +118,7 @@ module _ (s : Shown) (rest : List ℕ) (ok : Readable s) where
       ∙ ap (drop 2) (drop_at s.block (13 ∷ 10 ∷ rest) (length s.block) refl)
 
 -- as many turns as there are records suffice
-reads_up_to : (numbered : Bool) (xs : List Shown) (n : ℕ) → All Readable xs → length xs ≤ n → read_up_to n numbered (flat_map (value_lines numbered) xs ++ end_line) ≡ Some (map (told numbered) xs)
+reads_up_to : (numbered : Bool) (xs : List Shown) (n : ℕ) → AllByRecursion Readable xs → length xs ≤ n → read_up_to n numbered (flat_map (value_lines numbered) xs ++ end_line) ≡ Some (map (told numbered) xs)
 reads_up_to numbered [] zero all few = refl
 reads_up_to numbered [] (suc n) all few = refl
 reads_up_to numbered (s ∷ xs) zero all few = absurd (omega arith)

@@ -1,6 +1,6 @@
 -- Which replies the table can give, and that each of them fits the buffer.
 use Rattle.std.specs.Prelude.{ℕ, ◌+◌, ◌^◌, ◌<◌, ◌≤◌, length}
-use Rattle.std.specs.List.{AllByRecursion as All}
+use Rattle.std.specs.List.{AllByRecursion}
 use Rattle.replies.specs.declared.kinds.Figures.{Figures}
 use Rattle.replies.specs.Reply.{Shown, Reply, Line, Values, Statistics, Silent}
 use Rattle.replies.specs.Render.{render}
@@ -34,7 +34,7 @@ pub record FairFigures (f : Figures) : Type 0 where
 -- a reply that the table can give: any fixed line, at most four records, any figures, or nothing
 abbrev pub Fair : Reply → Type 0
 Fair (Line t) = Unit {0}
-Fair (Values numbered xs) = (length xs ≤ 4) × All FairShown xs
+Fair (Values numbered xs) = (length xs ≤ 4) × AllByRecursion FairShown xs
 Fair (Statistics f) = FairFigures f
 Fair Silent = Unit {0}
 

@@ -1,7 +1,7 @@
 -- How a client reads the bytes of a get's reply back: words up to a space or CR, and the data by its length.
 use Rattle.std.specs.Prelude.{◌≡◌, ℕ, zero, suc, ◌+◌, ◌<◌, Bool, true, false, cond, List, [], ◌∷◌, map, length, take, drop, Some, None, codes, Option, ◌==◌, nat_lt}
 use Rattle.std.specs.Str.Parse.{digits_value}
-use Rattle.std.specs.List.{flat_map, AllByRecursion as All}
+use Rattle.std.specs.List.{flat_map, AllByRecursion}
 use Rattle.replies.specs.Reply.{Shown}
 use Rattle.replies.specs.Render.{value_lines, end_line}
 use Rattle.replies.specs.Fair.{FairShown}
@@ -76,10 +76,10 @@ told false s = record { key = s.key; flags = s.flags; block = s.block; cas = 0 }
 -- a record that the table can hold, and whose key has no space and no control byte; of its data nothing is asked
 pub record Readable (s : Shown) : Type 0 where
   pub fair : FairShown s
-  pub plain : All (λ b. 32 < b) s.key
+  pub plain : AllByRecursion (λ b. 32 < b) s.key
 
 -- Where `bs` are the lines of records shown, and `reply` is the whole reply of a get, the records are read back from it:
 -- keys, flags and data, and the cas numbers where they are written; also where the data holds CR LF or END.
 abbrev pub ReadsBack : List ℕ → List ℕ → Type 0
 ReadsBack bs reply =
-    (numbered : Bool) (xs : List Shown) → All Readable xs → bs ≡ flat_map (value_lines numbered) xs → read_back numbered reply ≡ Some (map (told numbered) xs)
+    (numbered : Bool) (xs : List Shown) → AllByRecursion Readable xs → bs ≡ flat_map (value_lines numbered) xs → read_back numbered reply ≡ Some (map (told numbered) xs)

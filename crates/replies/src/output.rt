@@ -47,7 +47,7 @@ impl<'a> Writer<'a> {
     /// Writes a record shown, with its cas number where `numbered`; key and data are copied from where they lie.
     pub fn value(&mut self, key: &[u8], flags: u32, data: &[u8], cas: u64, numbered: bool)
         requires { Room (value_lines numbered (record { key = key.now; flags = flags; block = «data».now; cas = cas })) self.old }
-        ensures { Wrote (value_lines numbered (record { key = key.entry.now; flags = flags; block = «data».now; cas = cas })) self.old self.new }
+        ensures { Wrote (value_lines numbered (record { key = key.now; flags = flags; block = «data».now; cas = cas })) self.old self.new }
     {
         self.value_head(key, flags, data.len());
         self.cas_part(cas, numbered);

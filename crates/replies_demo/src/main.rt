@@ -1,5 +1,7 @@
 //! One of each reply, as the table writes it.
 
+#![tactic(auto)]
+
 ghost use Rattle.std.specs.Prelude.{◌≤◌, [], ◌∷◌, map, length};
 ghost use Rattle.replies.specs.Fair.{Fair};
 ghost use Rattle.replies.specs.Growth.{Replied};

@@ -1,4 +1,6 @@
 // The arithmetic of a table's size: kinds of records, what they add up to in each class, and the pages that they need.
+#![tactic(auto)]
+
 mod given;
 mod kind;
 mod reading;

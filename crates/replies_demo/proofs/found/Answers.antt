@@ -1,5 +1,5 @@
 use Rattle.std.proofs.Common.{◌≡◌, ℕ, ◌<◌, ◌≤◌, List, [], map, length, get_or, take, sym, ap, subst, arith, rules}
-use Rattle.std.specs.List.{flat_map, AllByRecursion as All}
+use Rattle.std.specs.List.{flat_map, AllByRecursion}
 use Rattle.std.proofs.lemmas.List.{length-map, length-take, map_more, take-map, take_all, get_or-map}
 use Rattle.std.proofs.ByRecursion.{All-get_or, All-take}
 use Rattle.replies.specs.Reply.{Shown, Values}
@@ -22,10 +22,10 @@ blank =
     }
 
 -- of fair items each front is fair, and each item
-front_fair : (items : List Item) (i : ℕ) → All FairShown (map shown_of items) → All FairShown (map shown_of (take i items))
-front_fair items i fair = subst (All FairShown) (take-map shown_of i items) (All-take FairShown i (map shown_of items) fair)
+front_fair : (items : List Item) (i : ℕ) → AllByRecursion FairShown (map shown_of items) → AllByRecursion FairShown (map shown_of (take i items))
+front_fair items i fair = subst (AllByRecursion FairShown) (take-map shown_of i items) (All-take FairShown i (map shown_of items) fair)
 
-item_fair : (items : List Item) (i : ℕ) → i < length items → All FairShown (map shown_of items) → FairShown (shown_of (get_or items i blank))
+item_fair : (items : List Item) (i : ℕ) → i < length items → AllByRecursion FairShown (map shown_of items) → FairShown (shown_of (get_or items i blank))
 item_fair items i h fair =
     subst FairShown (get_or-map shown_of items i blank (shown_of blank) h)
     (All-get_or FairShown (map shown_of items) i (shown_of blank) (omega (arith, length-map items shown_of)) fair)

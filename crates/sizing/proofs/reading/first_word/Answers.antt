@@ -5,6 +5,6 @@ use Rattle.sizing.proofs.reading.first_word.Goals as goal
 pub returns : goal.returns
 returns c =
     record {
-      word = cut_is take c.args.line.now _ _ _ c.run-start.ensures.value c.run.ensures.value c.split-at.ensures.front;
-      rest = cut_is drop c.args.line.now _ _ _ c.run-start.ensures.value c.run.ensures.value c.split-at.ensures.back;
+      word = cut_is take c.args.line.now _ _ _ c.run-start.ensures.value c.run.ensures.value c.split_at.ensures.front;
+      rest = cut_is drop c.args.line.now _ _ _ c.run-start.ensures.value c.run.ensures.value c.split_at.ensures.back;
     }

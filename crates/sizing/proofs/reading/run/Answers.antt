@@ -9,13 +9,13 @@ loop-i-init c = omega arith
 
 pub loop-i-preserved : goal.loop-i-preserved
 loop-i-preserved c =
-    let on = runs_on c.args.blanks _ _ c.is-blank.ensures c.if-is-blank-blanks.false in
+    let on = runs_on c.args.blanks _ _ c.is_blank.ensures c.if-is_blank-blanks.false in
     let more = prefix_len-drop_yes (in_run c.args.blanks) c.args.line.now c.loop-i.i 0 c.loop-i-test.true on in
     omega (arith, c.loop-i.invariant)
 
-pub returns-then-is-blank-blanks : goal.returns-then-is-blank-blanks
-returns-then-is-blank-blanks c =
-    let ends = run_ends c.args.blanks _ _ c.is-blank.ensures c.if-is-blank-blanks.true in
+pub returns-then-is_blank-blanks : goal.returns-then-is_blank-blanks
+returns-then-is_blank-blanks c =
+    let ends = run_ends c.args.blanks _ _ c.is_blank.ensures c.if-is_blank-blanks.true in
     let none = prefix_len-drop_no (in_run c.args.blanks) c.args.line.now c.loop-i.i 0 c.loop-i-test.true ends in
     record { value = omega (arith, c.loop-i.invariant); bound = omega arith }
 

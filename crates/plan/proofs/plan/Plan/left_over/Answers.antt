@@ -2,6 +2,6 @@ use Rattle.plan.specs.Plans.{plan_sizes}
 use Rattle.plan.proofs.Ask.{asked, at_least}
 use Rattle.plan.proofs.plan.Plan.left_over.Goals as goal
 
-pub nonzero-rem-result : goal.nonzero-rem-result
-nonzero-rem-result c =
-    at_least c.args.self.now (asked (plan_sizes c.args.self.now) c.args.class _ c.in-ok-size.ensures)
+pub nonzero_rem-result : goal.nonzero_rem-result
+nonzero_rem-result c =
+    at_least c.args.self.now (asked (plan_sizes c.args.self.now) c.args.class _ c.in_ok-size.ensures)

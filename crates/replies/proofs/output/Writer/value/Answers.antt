@@ -7,12 +7,12 @@ use Rattle.replies.proofs.output.Writer.value.Goals as goal
 abbrev shown : List ℕ → ℕ → List ℕ → ℕ → Shown
 shown k f b n = record { key = k; flags = f; block = b; cas = n }
 
-pub value-head-requires : goal.value-head-requires
-value-head-requires c =
+pub value_head-requires : goal.value_head-requires
+value_head-requires c =
     let l = length_value_lines c.args.numbered (shown c.args.key.now c.args.flags c.args.«data».now c.args.cas) in omega arith
 
-pub cas-part-requires : goal.cas-part-requires
-cas-part-requires c =
+pub cas_part-requires : goal.cas_part-requires
+cas_part-requires c =
     let l = length_value_lines c.args.numbered (shown c.args.key.now c.args.flags c.args.«data».now c.args.cas) in omega arith
 
 pub put-requires : goal.put-requires
@@ -28,4 +28,4 @@ put-requires-3 c =
     let l = length_value_lines c.args.numbered (shown c.args.key.now c.args.flags c.args.«data».now c.args.cas) in omega arith
 
 pub returns : goal.returns
-returns c = both (both (both (both c.value-head.ensures c.cas-part.ensures) c.put.ensures) c.put-2.ensures) c.put-3.ensures
+returns c = both (both (both (both c.value_head.ensures c.cas_part.ensures) c.put.ensures) c.put-2.ensures) c.put-3.ensures

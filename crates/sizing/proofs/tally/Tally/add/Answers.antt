@@ -6,20 +6,20 @@ use Rattle.plan.proofs.Facts.{fair}
 use Rattle.sizing.proofs.Sums.{added, paged, placed, product}
 use Rattle.sizing.proofs.tally.Tally.add.Goals as goal
 
-pub overflow-add-filled : goal.overflow-add-filled
-overflow-add-filled c =
+pub overflow_add-filled : goal.overflow_add-filled
+overflow_add-filled c =
     let fits = c.in-Some.ensures.smallest in
     let f = fair c.args.self.now.plan c.in-Some.class fits.numbered.0 fits.numbered.1 in
     let small = product c.need-bytes.result c.args.kind.count (omega arith) in
     let kept = c.args.self.now.paged (c.in-Some.class - 1) (omega arith) in
-    omega (arith, c.in-Some-checked-add.ensures)
+    omega (arith, c.in-Some-checked_add.ensures)
 
-pub invariant-of-self : goal.invariant-of-self
-invariant-of-self c =
+pub invariant_of-self : goal.invariant_of-self
+invariant_of-self c =
     let fits = c.in-Some.ensures.smallest in
     let f = fair c.args.self.now.plan c.in-Some.class fits.numbered.0 fits.numbered.1 in
     let small = product c.need-bytes.result c.args.kind.count (omega arith) in
-    let sum = c.in-Some-checked-add.ensures.1 in (
+    let sum = c.in-Some-checked_add.ensures.1 in (
       λ i few.
           let kept =
           paged (c.need-bytes.result * c.args.kind.count) c.args.kind.count (c.in-Some.class - 1) c.args.self.now.filled c.args.self.now.records (omega arith) (omega arith) small c.args.self.now.paged i few in
@@ -34,7 +34,7 @@ returns c =
     let f = fair c.args.self.now.plan c.in-Some.class fits.numbered.0 fits.numbered.1 in
     let needs_so = c.need-bytes.ensures in
     let is = c.in-Some.ensures.value ∙ ap (λ n. class_of n sizes) needs_so in
-    let sum = c.in-Some-checked-add.ensures in
+    let sum = c.in-Some-checked_add.ensures in
     record {
       place = placed c.args.self.now c.args.kind c.in-Some.class is sum.0;
       plan = refl;

@@ -2,8 +2,8 @@ use Rattle.std.proofs.Common.{ℕ, refl, arith}
 use lib.ListN.{get_or-replicate}
 use Rattle.sizing.proofs.tally.Tally.new.Goals as goal
 
-pub invariant-of-result : goal.invariant-of-result
-invariant-of-result c = (λ i lt. let z = get_or-replicate {A = ℕ} 32 i 0 0 lt in omega arith, tt)
+pub invariant_of-result : goal.invariant_of-result
+invariant_of-result c = (λ i lt. let z = get_or-replicate {A = ℕ} 32 i 0 0 lt in omega arith, tt)
 
 pub returns : goal.returns
 returns c =
