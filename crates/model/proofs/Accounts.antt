@@ -1,14 +1,14 @@
 -- Every record linked is accounted for. Assumes nothing.
-use Rattle.std.proofs.Common.{◌≡◌, ℕ, zero, suc, ◌+◌, ◌-◌, ◌<◌, ◌≤◌, Bool, true, false, List, [], ◌∷◌, map, length, get_or, set, replicate, sum_by, filter, Option, sym, refl, ap, ◌∙◌, subst, arith}
+use Rattle.std.proofs.Common.{◌≡◌, ℕ, zero, suc, ◌+◌, ◌-◌, true, false, List, ◌∷◌, map, length, set, replicate, sum_by, filter, Option, refl, ◌∙◌, arith}
 use lib.ListN.{length-map}
 use Rattle.std.specs.List.{flat_map}
 use Rattle.std.proofs.lemmas.List.Sums.{sum_by-set, sum_by-cons}
-use Rattle.model.specs.Setup.{Setup, chunks}
-use Rattle.model.specs.Records.{Key, Record, has_key, other_key, class_no, moved_at}
+use Rattle.model.specs.Setup.{Setup}
+use Rattle.model.specs.Records.{Record, other_key, class_no, moved_at}
 use Rattle.model.specs.Store.{Class, Counts, Store, Why, Replaced, Deleted, Flushed, Expired, Evicted, Dropped, bare, class_at, everything, records_of, aged, count_left, remove, to_front, give_page, insert, set_expiry}
-use Rattle.model.specs.Calls.{Call, run, empty}
-use Rattle.model.specs.Promises.{Planned, Accounted, EverythingIsAccountedFor, pages_of}
-use Rattle.model.proofs.Held.{count, length_other}
+use Rattle.model.specs.Calls.{empty}
+use Rattle.model.specs.Promises.{EverythingIsAccountedFor, pages_of}
+use Rattle.model.proofs.Held.{length_other}
 use Rattle.model.proofs.Sound.{Sound, Numbered, Lives, own_key, length_set_class, in_range}
 use Rattle.model.proofs.Changes.{Change, Changes, none, then, asked, regrown, removed, fronted, gave, stored, touched, sound_change, sound_changes}
 use Rattle.model.proofs.Chains.{run_changes, sound_empty}

@@ -1,7 +1,7 @@
 -- Each command, each call and each run is a chain of changes. Assumes nothing.
-use Rattle.std.proofs.Common.{◌≡◌, ℕ, zero, suc, ◌+◌, ◌-◌, ◌<◌, ◌≤◌, max, Bool, true, false, cond, not, eqb, ltb, leb, List, [], ◌∷◌, ◌++◌, map, length, get_or, set, replicate, ℤ, Some, None, filter, Option, sym, refl, ap, ◌∙◌, subst, ⊎_elim, arith}
+use Rattle.std.proofs.Common.{◌≡◌, ℕ, zero, suc, ◌-◌, ◌<◌, ◌≤◌, max, Bool, true, false, cond, not, eqb, List, [], ◌∷◌, map, length, get_or, set, replicate, ℤ, Some, None, filter, Option, sym, refl, ap, subst, ⊎_elim, arith}
 use lib.ListN.{length-replicate}
-use Rattle.std.specs.List.{flat_map, AllByRecursion as All}
+use Rattle.std.specs.List.{flat_map}
 use Rattle.std.proofs.lemmas.Bool.{cond-true, cases_eq}
 use Rattle.std.specs.Str.{bytes_eq}
 use Rattle.refusals.specs.declared.Refusal.TheVariants as refusal
@@ -14,16 +14,16 @@ use Rattle.lines.specs.Command.{Item}
 use Rattle.lines.specs.Reading.{reading}
 use Rattle.replies.specs.declared.kinds.Text.TheVariants as text
 use Rattle.replies.specs.Reply.{Shown, Line}
-use Rattle.model.specs.Setup.{Setup, chunks}
-use Rattle.model.specs.Records.{Key, Record, dead, has_key, other_key, class_no, class_for, number_or_0, expiry_of, moved_at, expiring}
-use Rattle.model.specs.Store.{Class, Store, Why, Replaced, Deleted, Flushed, Expired, Evicted, Dropped, bare, class_at, with_records, everything, records_of, held, aged, has_room, remove, remove_any, remove_all, find, to_front, use_record, set_expiry, counted, with_growth, move_slot, link, grant}
-use Rattle.model.specs.Commands.{Told, told, store_command, judged, put, place, linked_or_not, without_room, fresh, get_command, ask, ask_all, hit_or_miss, more_found, Asked, delete_command, delete_found, touch_command, touch_found, flush_command}
+use Rattle.model.specs.Setup.{Setup}
+use Rattle.model.specs.Records.{Key, Record, has_key, other_key, class_no, class_for, number_or_0, expiry_of, expiring}
+use Rattle.model.specs.Store.{Class, Store, Why, Deleted, Flushed, Dropped, bare, class_at, everything, records_of, held, aged, has_room, remove, remove_all, find, set_expiry, grant}
+use Rattle.model.specs.Commands.{told, store_command, judged, put, place, linked_or_not, without_room, fresh, ask, ask_all, hit_or_miss, more_found, Asked, delete_command, delete_found, touch_command, touch_found}
 use Rattle.model.specs.Calls.{State, Call, Admit, Request, Leave, Idle, Outcome, step, after, run, empty, unless, refuse_admit, refuse_request, refuse_if, run_command, run_reading, answer_request, is_open}
 use Rattle.model.specs.Promises.{Planned}
 use Rattle.model.proofs.Held.{On, here, there, count, count_cons, count_some, on_map, on_kept, same_key}
-use Rattle.model.proofs.Sound.{Sound, Numbered, Lives, lives, at_same, at_other, nothing_on}
+use Rattle.model.proofs.Sound.{Sound, Numbered, Lives, lives, at_same, at_other}
 use Rattle.model.proofs.Plans.{numbered_class}
-use Rattle.model.proofs.Changes.{Change, Changes, none, then, one, join, asked, regrown, removed, fronted, touched, sound_changes, and_then, find_changes, use_changes, asked_changes, held_lives, Granted, Grants, granted, link_changes, gone}
+use Rattle.model.proofs.Changes.{Changes, none, then, one, join, asked, regrown, removed, touched, sound_changes, and_then, find_changes, use_changes, asked_changes, held_lives, Grants, granted, link_changes}
 
 -- a class with another list
 abbrev with_list : Class → List Record → Class

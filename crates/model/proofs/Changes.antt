@@ -1,16 +1,15 @@
 -- Every command is a chain of a few small changes, each made only where it may be. Assumes nothing.
-use Rattle.std.proofs.Common.{◌≡◌, ℕ, zero, suc, ◌+◌, ◌-◌, ◌*◌, ◌<◌, ◌≤◌, Bool, true, false, cond, not, eqb, ltb, leb, ◌⊎◌, List, [], ◌∷◌, ◌++◌, map, length, get_or, set, Some, None, filter, Option, sym, refl, ap, ◌∙◌, subst, inl, inr, ⊎_elim, add-mul, arith}
-use Rattle.std.specs.List.{flat_map, AllByRecursion as All}
-use Rattle.std.proofs.lemmas.Bool.{ltb-true, ltb-false, lt-ltb, le-ltb, cases_eq}
+use Rattle.std.proofs.Common.{◌≡◌, ℕ, ◌+◌, ◌-◌, ◌<◌, ◌≤◌, Bool, true, false, cond, ltb, length, Some, None, filter, Option, sym, refl, ap, subst, ⊎_elim, add-mul, arith}
+use Rattle.std.proofs.lemmas.Bool.{ltb-true, ltb-false, lt-ltb, cases_eq}
 use Rattle.policy.specs.Meaning.{Meaning}
-use Rattle.model.specs.Setup.{Setup, chunks}
-use Rattle.model.specs.Records.{Key, Record, dead, has_key, other_key, class_no, moved_at, expiring}
-use Rattle.model.specs.Store.{Class, Store, Why, Replaced, Deleted, Flushed, Expired, Evicted, Dropped, bare, class_at, with_records, with_page, everything, records_of, held, first, last, aged, has_room, rear, rear_dead, remove, remove_any, remove_all, if_dead, find, to_front, use_record, give_page, insert, set_expiry, counted, with_growth, grow, numbered, link, grant, rid, or_else}
+use Rattle.model.specs.Setup.{Setup}
+use Rattle.model.specs.Records.{Key, Record, dead, has_key, other_key, class_no, moved_at}
+use Rattle.model.specs.Store.{Store, Why, Replaced, Deleted, Flushed, Expired, Evicted, Dropped, class_at, everything, held, first, has_room, rear, rear_dead, remove, remove_any, if_dead, find, to_front, use_record, give_page, insert, set_expiry, counted, with_growth, numbered, link, grant, rid, or_else}
 use Rattle.model.specs.Promises.{Planned}
-use Rattle.model.proofs.Held.{On, here, there, count, length_other, count_other, none_first, key_is, all_on, first_on, first_none, last_on}
+use Rattle.model.proofs.Held.{On, length_other, count_other, none_first, key_is, all_on, first_on, first_none, last_on}
 use Rattle.plan.specs.Classes.{size_at, chunks_of}
-use Rattle.model.proofs.Sound.{Sound, Numbered, Lives, at_same, at_other, count_set, own_key, lives, on_class, found, sound_page, sound_without, sound_front, sound_aged, sound_insert}
-use Rattle.model.proofs.Plans.{chunk_each, numbered_class}
+use Rattle.model.proofs.Sound.{Sound, Numbered, Lives, at_same, at_other, count_set, own_key, lives, on_class, sound_page, sound_without, sound_front, sound_aged, sound_insert}
+use Rattle.model.proofs.Plans.{chunk_each}
 
 -- why a record may be removed: an expired one is dead, an evicted one is the rearmost of a full class of a table without a free page
 abbrev pub Reason : Setup → ℕ → Why → Record → Store → Type 0

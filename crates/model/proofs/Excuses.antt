@@ -12,11 +12,11 @@ use Rattle.lines.specs.Command as line
 use Rattle.lines.specs.Command.{Item}
 use Rattle.lines.specs.Reading.{reading}
 use Rattle.replies.specs.declared.kinds.Text.TheVariants as text
-use Rattle.replies.specs.Reply.{Shown, Reply, Line, Values}
+use Rattle.replies.specs.Reply.{Shown, Reply, Line}
 use Rattle.model.specs.Setup.{Setup}
-use Rattle.model.specs.Records.{Key, Record, dead, has_key, class_no, class_for, expiry_of, expiring}
-use Rattle.model.specs.Store.{Store, Why, Replaced, Deleted, Flushed, Expired, Evicted, Dropped, Happening, Given, Stored, Moved, Left, everything, held, first, if_dead, find, to_front, use_record, has_room, give_page, rear_dead, rear, rid, or_else, grant, remove, remove_any, remove_all, numbered, link, set_expiry}
-use Rattle.model.specs.Commands.{Told, told, store_command, judged, put, place, linked_or_not, without_room, fresh, get_command, ask, ask_all, hit_or_miss, more_found, Asked, delete_command, delete_found, touch_command, touch_found, flush_command}
+use Rattle.model.specs.Records.{Key, Record, has_key, class_no, class_for, expiry_of, expiring}
+use Rattle.model.specs.Store.{Store, Why, Replaced, Deleted, Flushed, Expired, Evicted, Dropped, Happening, Given, Stored, Moved, Left, everything, held, if_dead, find, to_front, use_record, has_room, give_page, rear_dead, rear, rid, or_else, grant, remove, remove_any, remove_all, numbered, link, set_expiry}
+use Rattle.model.specs.Commands.{Told, told, store_command, judged, put, place, linked_or_not, without_room, fresh, ask, ask_all, hit_or_miss, more_found, Asked, delete_command, delete_found, touch_command, touch_found}
 use Rattle.model.specs.Calls.{State, Call, Admit, Request, Leave, Idle, Outcome, outcome, step, run, unless, refuse_admit, refuse_request, refuse_if, run_command, run_reading, answer_request, is_open}
 use Rattle.model.specs.Reasons.{excused, Excused, ExcusedIn, EveryReasonIsTrue}
 use Rattle.model.proofs.Held.{first_on}

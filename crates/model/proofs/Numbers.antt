@@ -1,17 +1,16 @@
 -- Every record that was linked is held or left once: counts by cas number. Assumes nothing.
-use Rattle.std.proofs.Common.{◌≡◌, ℕ, zero, suc, ◌+◌, ◌-◌, ◌<◌, ◌≤◌, Bool, true, false, cond, not, ◌&&◌, eqb, leb, List, [], ◌∷◌, ◌++◌, map, length, set, replicate, filter, Option, sym, refl, ap, ◌∙◌, subst, arith}
+use Rattle.std.proofs.Common.{◌≡◌, ℕ, zero, suc, ◌+◌, ◌-◌, Bool, cond, ◌&&◌, eqb, leb, List, [], ◌∷◌, ◌++◌, map, length, set, replicate, filter, Option, sym, refl, ap, ◌∙◌, arith}
 use Rattle.std.specs.List.{flat_map}
-use Rattle.std.specs.Str.{bytes_eq}
 use Rattle.std.proofs.lemmas.Bool.Decides.{nat_tests}
 use Rattle.std.proofs.lemmas.Bool.{cond_both}
 use Rattle.model.specs.Setup.{Setup}
 use Rattle.model.specs.Records.{Key, Record, has_key, other_key, class_no, moved_at, expiring}
-use Rattle.model.specs.Store.{Class, Store, Happening, Given, Stored, Moved, Left, bare, class_at, everything, records_of, aged}
+use Rattle.model.specs.Store.{Class, Store, Happening, Given, Stored, Moved, Left, bare, class_at, records_of, aged}
 use Rattle.model.specs.Calls.{Call, run, empty, step}
 use Rattle.model.specs.Stories.{stores, departures}
 use Rattle.model.specs.Promises.{Planned, has_cas, copies, EachRecordLeavesOnce, ToldBetween, ACallTellsWhatItDid}
 use Rattle.model.proofs.Held.{On, here, there, count, count_cons, count_some, same_key}
-use Rattle.model.proofs.Sound.{Sound, Numbered, Lives, own_key, count_set_by}
+use Rattle.model.proofs.Sound.{Sound, Numbered, own_key, count_set_by}
 use Rattle.model.proofs.Changes.{Change, Changes, none, then, asked, regrown, removed, fronted, gave, stored, touched, sound_change, sound_changes}
 use Rattle.model.proofs.Chains.{run_changes, step_changes, sound_empty}
 use Rattle.model.proofs.Truth.{grows_all}

@@ -1,10 +1,9 @@
 -- An opening that is not refused has a lawful plan. Assumes nothing.
-use Rattle.std.proofs.Common.{◌≡◌, ℕ, Bool, true, false, not, Some, None, Option, refl, arith}
+use Rattle.std.proofs.Common.{◌≡◌, ℕ, Bool, true, false, not, None, Option, refl, arith}
 use Rattle.refusals.specs.declared.Refusal.{Refusal}
 use Rattle.refusals.specs.declared.Refusal.TheVariants as refusal
 use Rattle.plan.specs.Sizes.{lawful}
 use Rattle.model.specs.Calls.{refuse_if}
-use Rattle.model.specs.Opening.{Opening, refuse_opening, setup_of}
 use Rattle.model.specs.Promises.{OpeningsArePlanned}
 
 not_refused : (b : Bool) (rest : Option Refusal) → refuse_if (not b) refusal.Plan rest ≡ None → b ≡ true

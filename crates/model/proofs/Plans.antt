@@ -1,8 +1,8 @@
 -- What a lawful plan gives the table: every class has at least one chunk a page. Assumes nothing.
-use Rattle.std.proofs.Common.{◌≡◌, ℕ, zero, suc, ◌+◌, ◌-◌, ◌*◌, ◌/◌, ◌<◌, ◌≤◌, Bool, true, false, cond, leb, List, [], ◌∷◌, length, get_or, Some, None, Option, sym, refl, ap, ◌∙◌, subst, mod-lt, div-add-mod', arith}
-use Rattle.plan.specs.Sizes.{page, next_size, Follows, ends, goes, lawful, sizes_of}
+use Rattle.std.proofs.Common.{◌≡◌, ℕ, zero, suc, ◌-◌, ◌*◌, ◌/◌, ◌<◌, ◌≤◌, Bool, true, false, cond, leb, List, [], ◌∷◌, length, get_or, Some, None, Option, refl, ap, mod-lt, div-add-mod', arith}
+use Rattle.plan.specs.Sizes.{Follows, ends, goes, sizes_of}
 use Rattle.plan.specs.Classes.{size_at, chunks_of, class_of, one_more}
-use Rattle.plan.proofs.Rule.{lawful_follows, least_size, lawful_start, Start}
+use Rattle.plan.proofs.Rule.{lawful_follows, least_size, lawful_start}
 use Rattle.model.specs.Setup.{Setup}
 use Rattle.model.specs.Records.{Key, class_for}
 use Rattle.model.specs.Promises.{Planned}

@@ -1,22 +1,21 @@
 -- Nothing leaves while there is room. Assumes nothing.
-use Rattle.std.proofs.Common.{◌≡◌, ℕ, zero, suc, ◌+◌, ◌-◌, ◌<◌, ◌≤◌, Bool, true, false, cond, not, ◌||◌, eqb, ltb, ◌⊎◌, List, [], ◌∷◌, ◌++◌, map, length, get_or, Some, None, filter, Option, sym, refl, ap, ◌∙◌, subst, inl, inr, ⊎_elim, arith}
+use Rattle.std.proofs.Common.{◌≡◌, ℕ, suc, ◌+◌, ◌≤◌, Bool, true, false, cond, eqb, List, [], ◌∷◌, map, length, Some, None, filter, Option, sym, refl, ap, ◌∙◌, subst, ⊎_elim, arith}
 use lib.ListN.{length-map}
-use Rattle.std.specs.List.{flat_map, AllByRecursion as All}
+use Rattle.std.specs.List.{AllByRecursion as All}
 use Rattle.std.specs.Str.{bytes_eq}
 use Rattle.std.proofs.ByRecursion.{all_kept_by, All-weaker, kept_by_passes}
 use Rattle.std.proofs.lemmas.List.Filters.{length-filter_both}
 use Rattle.std.proofs.lemmas.Bool.{both_ways, not-true, or_left, or_right, or_parts, or_cases, ltb-false, cases_Bool}
 use Rattle.model.specs.Setup.{Setup, chunks}
-use Rattle.model.specs.Records.{Key, Record, dead, has_key, other_key, class_no, moved_at}
-use Rattle.model.specs.Store.{Class, Store, Why, Replaced, Deleted, Flushed, Expired, Evicted, Dropped, Happening, Given, Stored, Moved, Left, class_at, everything, records_of, last, or_else, has_room, rear}
-use Rattle.model.specs.Calls.{Call, run, empty}
-use Rattle.model.specs.Stories.{among, unlike, different, keys_told, pages_told, pages_given, Sensible, uses, since, unasked}
-use Rattle.model.specs.Promises.{Planned, Crowded, Fair, Faithful, key_of, NothingLeavesWhileThereIsRoom}
-use Rattle.model.proofs.Held.{On, here, there, count, count_cons, count_joined, count_kept, same_key, key_is, length_other, all_on, last_on, on_map}
-use Rattle.model.proofs.Sound.{Sound, Numbered, Lives, own_key}
+use Rattle.model.specs.Records.{Key, Record, dead, has_key, class_no}
+use Rattle.model.specs.Store.{Store, Why, Replaced, Deleted, Flushed, Expired, Evicted, Dropped, Happening, Given, Stored, Moved, Left, class_at, last, or_else}
+use Rattle.model.specs.Stories.{among, unlike, different, keys_told, pages_told, Sensible, uses, since, unasked}
+use Rattle.model.specs.Promises.{Crowded, Fair, Faithful, key_of, NothingLeavesWhileThereIsRoom}
+use Rattle.model.proofs.Held.{count, count_cons, count_kept, same_key, key_is, all_on, last_on, on_map}
+use Rattle.model.proofs.Sound.{Sound, Lives, own_key}
 use Rattle.model.proofs.Changes.{Reason, Change, Changes, none, then, asked, regrown, removed, fronted, gave, stored, touched, sound_change}
 use Rattle.model.proofs.Chains.{run_changes, sound_empty}
-use Rattle.model.proofs.Truth.{keys_kept, class_few, faithful_change, faithful_empty}
+use Rattle.model.proofs.Truth.{class_few, faithful_change, faithful_empty}
 
 -- KEYS THAT DIFFER
 

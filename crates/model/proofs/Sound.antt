@@ -1,18 +1,18 @@
 -- What every store of a run keeps: each record is in its own class, no key is held twice, and no class is overfull. Assumes nothing.
-use Rattle.std.proofs.Common.{◌≡◌, ℕ, zero, suc, ◌+◌, ◌-◌, ◌*◌, ◌<◌, ◌≤◌, Bool, true, false, cond, not, eqb, ltb, leb, ◌⊎◌, List, [], ◌∷◌, ◌++◌, map, length, get_or, set, Some, None, sum_by, filter, Option, sym, refl, ap, ◌∙◌, subst, inl, inr, ⊎_elim, add-mul, arith, length-set, get_or-set_other, get_or-set_same}
+use Rattle.std.proofs.Common.{◌≡◌, ℕ, ◌+◌, ◌-◌, ◌<◌, ◌≤◌, Bool, true, false, cond, List, [], ◌∷◌, map, length, get_or, set, Some, None, filter, Option, sym, refl, ap, ◌∙◌, subst, ⊎_elim, add-mul, arith, length-set, get_or-set_other, get_or-set_same}
 use lib.ListN.{length-map}
 use Rattle.std.specs.List.{flat_map, AllByRecursion as All}
 use Rattle.std.specs.Str.{bytes_eq}
 use Rattle.std.proofs.ByRecursion.{all_kept_by, All-map, All-weaker}
 use Rattle.std.proofs.lemmas.List.{get_or_past}
 use Rattle.std.proofs.lemmas.List.Sums.{sum_by-set, get_or-le-sum_by}
-use Rattle.std.proofs.lemmas.Bool.{cases_eq, cases_lt, ltb-true, cond_both}
+use Rattle.std.proofs.lemmas.Bool.{cases_eq, cases_lt, cond_both}
 use Rattle.plan.specs.Classes.{size_at, chunks_of}
 pub use Rattle.model.specs.Sound.{Sound, Numbered}
 use Rattle.model.specs.Setup.{Setup, chunks}
-use Rattle.model.specs.Records.{Key, Record, has_key, other_key, class_no, class_for, moved_at, expiring}
-use Rattle.model.specs.Store.{Class, Store, bare, class_at, with_records, with_page, everything, records_of, held, first, aged, has_room}
-use Rattle.model.proofs.Held.{On, here, there, count, count_cons, count_some, count_kept, count_joined, length_joined, first_on, first_none, none_first, only_one, on_joined, joined_on, all_on, same_key, key_is, count_other, length_other}
+use Rattle.model.specs.Records.{Key, Record, has_key, other_key, class_no, expiring}
+use Rattle.model.specs.Store.{Class, bare, class_at, with_records, with_page, records_of, first, aged}
+use Rattle.model.proofs.Held.{On, count, count_cons, count_some, count_kept, count_joined, length_joined, first_on, first_none, only_one, on_joined, joined_on, all_on, same_key, key_is, count_other, length_other}
 
 -- CHANGING ONE CLASS
 

@@ -1,19 +1,18 @@
 -- The story tells what the store holds. Assumes nothing.
-use Rattle.std.proofs.Common.{◌≡◌, ℕ, zero, suc, ◌+◌, ◌-◌, ◌<◌, ◌≤◌, Bool, true, false, cond, not, ◌||◌, eqb, ◌⊎◌, List, [], ◌∷◌, ◌++◌, map, length, get_or, set, replicate, Some, None, sum_by, filter, Option, sym, refl, ap, ◌∙◌, subst, inl, inr, ⊎_elim, append_assoc, arith}
+use Rattle.std.proofs.Common.{◌≡◌, ℕ, ◌+◌, ◌-◌, ◌<◌, ◌≤◌, Bool, true, false, cond, eqb, List, [], ◌∷◌, ◌++◌, map, length, set, filter, Option, sym, refl, ap, ◌∙◌, subst, ⊎_elim, append_assoc, arith}
 use Rattle.std.specs.List.{flat_map}
-use Rattle.std.specs.Str.{bytes_eq}
 use Rattle.std.proofs.lemmas.List.{get_or_past}
 use Rattle.std.proofs.lemmas.List.Sums.{get_or-le-sum_by}
 use Rattle.std.proofs.lemmas.Bool.{cases_eq, cases_lt, eq-eqb, ne_eqb, or_left, or_right}
 use Rattle.model.specs.Setup.{Setup}
 use Rattle.model.specs.Records.{Key, Record, has_key, other_key, class_no, moved_at}
 use Rattle.model.specs.Store.{Class, Counts, Store, Why, Replaced, Deleted, Flushed, Expired, Evicted, Dropped, Happening, Given, Stored, Moved, Left, bare, class_at, everything, records_of, aged, count_left, count_linked}
-use Rattle.model.specs.Calls.{Call, run, empty}
-use Rattle.model.specs.Stories.{among, unlike, keys_told, pages_told, pages_given, Sensible, stores, leavings}
-use Rattle.model.specs.Promises.{Planned, Tallied, Faithful, key_of, TheStoryIsTrue}
+use Rattle.model.specs.Calls.{empty}
+use Rattle.model.specs.Stories.{among, unlike, keys_told, pages_told}
+use Rattle.model.specs.Promises.{Tallied, Faithful, key_of, TheStoryIsTrue}
 use Rattle.model.proofs.Held.{On, here, there, count, count_cons, count_joined, same_key, first_none}
-use Rattle.model.proofs.Sound.{Sound, Numbered, Lives, at_same, at_other, in_range, aged_key}
-use Rattle.model.proofs.Changes.{Change, Changes, none, then, asked, regrown, removed, fronted, gave, stored, touched, sound_change, sound_changes}
+use Rattle.model.proofs.Sound.{Sound, Numbered, at_same, at_other, in_range, aged_key}
+use Rattle.model.proofs.Changes.{Change, Changes, none, then, asked, regrown, removed, fronted, gave, stored, touched, sound_change}
 use Rattle.model.proofs.Chains.{run_changes, sound_empty, at_bare}
 
 -- KEYS OF RECORDS

@@ -13,7 +13,7 @@ use Rattle.replies.specs.declared.kinds.Figures.{Figures}
 use Rattle.replies.specs.declared.kinds.Text.TheVariants as text
 use Rattle.replies.specs.Reply.{Reply, Line, Statistics, Silent}
 use Rattle.model.specs.Setup.{Setup}
-use Rattle.model.specs.Store.{Store, Class, bare, counts_of, everything, move_slot, first}
+use Rattle.model.specs.Store.{Store, bare, counts_of, everything, move_slot, first}
 use Rattle.model.specs.Commands.{Told, told, store_command, get_command, delete_command, touch_command, flush_command}
 
 -- An open session: its caller, and the second at which it was admitted or last served.

@@ -1,5 +1,5 @@
 -- What each command does to the records, and what it answers.
-use Rattle.std.specs.Prelude.{ℕ, Bool, true, false, cond, List, [], ◌∷◌, length, ℤ, Some, None, Option, ◌==◌}
+use Rattle.std.specs.Prelude.{ℕ, Bool, true, false, cond, List, [], ◌∷◌, ℤ, Some, None, Option, ◌==◌}
 use Rattle.policy.specs.Meaning.{Meaning}
 use Rattle.lines.specs.declared.Verb.{Verb}
 use Rattle.lines.specs.declared.Verb.TheVariants.{Set, Add, Replace, Cas}
@@ -8,7 +8,7 @@ use Rattle.replies.specs.declared.kinds.Text.TheVariants as text
 use Rattle.replies.specs.Reply.{Shown, Reply, Line, Values}
 use Rattle.model.specs.Setup.{Setup}
 use Rattle.model.specs.Records.{Key, Record, expiry_of, class_for, expiring}
-use Rattle.model.specs.Store.{Store, Why, Dropped, Deleted, Flushed, held, everything, find, use_record, remove, remove_any, remove_all, grant, link, set_expiry, counted}
+use Rattle.model.specs.Store.{Store, Dropped, Deleted, Flushed, held, everything, find, use_record, remove, remove_any, remove_all, grant, link, set_expiry, counted}
 
 -- the records after a command, and its reply
 pub record Told : Type 0 where

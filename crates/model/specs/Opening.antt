@@ -1,10 +1,10 @@
 -- What a table is opened with, and the two refusals that come before every other.
-use Rattle.std.specs.Prelude.{ℕ, ◌*◌, ◌/◌, ◌%◌, Bool, true, false, cond, not, ◌&&◌, ◌||◌, List, [], ◌∷◌, Some, None, Option, ◌==◌, nat_le}
+use Rattle.std.specs.Prelude.{ℕ, ◌*◌, ◌/◌, ◌%◌, Bool, true, false, not, ◌&&◌, ◌||◌, List, [], ◌∷◌, Some, None, Option, ◌==◌, nat_le}
 use Rattle.refusals.specs.declared.Refusal.{Refusal}
 use Rattle.refusals.specs.declared.Refusal.TheVariants as refusal
 use Rattle.plan.specs.Sizes.{page, lawful, sizes_of}
 use Rattle.model.specs.Setup.{Setup}
-use Rattle.model.specs.Calls.{State, empty, Call, Answer, Refused, Outcome, step, refuse_if}
+use Rattle.model.specs.Calls.{State, empty, Call, Answer, Refused, step, refuse_if}
 
 pub record Opening : Type 0 where
   -- the plan: the first size, and the percent

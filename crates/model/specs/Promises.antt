@@ -1,5 +1,5 @@
 -- What is promised of every run of the reference table.
-use Rattle.std.specs.Prelude.{◌≡◌, ℕ, suc, ◌+◌, ◌<◌, ◌≤◌, Bool, true, false, List, [], ◌∷◌, ◌++◌, map, length, None, sum_by, filter, ◌==◌}
+use Rattle.std.specs.Prelude.{◌≡◌, ℕ, ◌+◌, ◌<◌, ◌≤◌, Bool, true, false, List, [], ◌∷◌, ◌++◌, map, length, None, sum_by, filter, ◌==◌}
 use Rattle.std.specs.List.{AllZip, AllByRecursion as All}
 use Rattle.plan.specs.Sizes.{lawful, sizes_of}
 use Rattle.lines.specs.declared.Verb.{Verb}
@@ -11,8 +11,8 @@ use Rattle.replies.specs.declared.kinds.Text.TheVariants as text
 use Rattle.replies.specs.Reply.{Shown, Reply, Line, Values, Statistics, Silent}
 use Rattle.model.specs.Setup.{Setup, chunks}
 use Rattle.model.specs.Records.{Key, Record, dead, has_key}
-use Rattle.model.specs.Store.{Store, Class, Counts, Why, Replaced, Deleted, Flushed, Expired, Evicted, Dropped, Happening, Given, Stored, Moved, Left, class_at, everything}
-use Rattle.model.specs.Calls.{State, Call, Admit, Request, Leave, Idle, Answer, Refused, Done, Replied, Closed, run, answers, empty, step}
+use Rattle.model.specs.Store.{Store, Class, Counts, Replaced, Deleted, Flushed, Expired, Evicted, Dropped, Happening, Given, Stored, Moved, Left, class_at, everything}
+use Rattle.model.specs.Calls.{Call, Admit, Request, Leave, Idle, Answer, Refused, Done, Replied, Closed, run, answers, empty, step}
 use Rattle.model.specs.Opening.{Opening, refuse_opening, setup_of}
 use Rattle.model.specs.Stories.{keys_told, pages_told, pages_given, Sensible, uses, since, different, stores, leavings, departures, unasked}
 

@@ -1,5 +1,5 @@
 -- Who may say that a record left, and for which reason.
-use Rattle.std.specs.Prelude.{◌≡◌, ℕ, Bool, true, false, not, ◌&&◌, List, [], ◌∷◌, ◌++◌}
+use Rattle.std.specs.Prelude.{◌≡◌, ℕ, Bool, true, false, not, ◌&&◌, List, [], ◌++◌}
 use Rattle.std.specs.List.{AllByRecursion as All}
 use Rattle.std.specs.Str.{bytes_eq}
 use Rattle.lines.specs.declared.Verb.{Verb}
@@ -10,7 +10,7 @@ use Rattle.replies.specs.Reply.{Reply, Line, Values, Statistics, Silent}
 use Rattle.model.specs.Setup.{Setup}
 use Rattle.model.specs.Records.{Key, Record}
 use Rattle.model.specs.Store.{Why, Replaced, Deleted, Flushed, Expired, Evicted, Dropped, Happening, Given, Stored, Moved, Left}
-use Rattle.model.specs.Calls.{Call, Admit, Request, Leave, Idle, Answer, Refused, Done, Replied, Closed, Outcome, run, step}
+use Rattle.model.specs.Calls.{Call, Admit, Request, Leave, Idle, Answer, Refused, Done, Replied, Closed, run, step}
 use Rattle.model.specs.Promises.{success}
 
 -- What a line asks of the records that are held: which keys it deletes, whether it flushes all, under which keys it stores, and under which by set.

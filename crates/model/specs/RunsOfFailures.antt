@@ -1,5 +1,5 @@
 -- Runs in which a record finds no place: who keeps the old record, and who loses it.
-use Rattle.std.specs.Prelude.{List, [], ◌∷◌, ◌++◌, codes}
+use Rattle.std.specs.Prelude.{[], ◌∷◌, ◌++◌, codes}
 use Rattle.model.specs.Scripts.{every_use, refusing, line, many, with_data, value, end, statistics, admit, ask, Script, script}
 
 -- A policy that never evicts: set drops its old record, replace and add keep

@@ -1,5 +1,5 @@
 -- Runs of a class that is full: what gives way, and in which order.
-use Rattle.std.specs.Prelude.{List, [], ◌∷◌, ◌++◌}
+use Rattle.std.specs.Prelude.{[], ◌∷◌, ◌++◌}
 use Rattle.model.specs.Scripts.{every_use, refusing, line, many, with_data, value, end, statistics, admit, ask, Script, script}
 
 -- The least recently used of a full class goes, a moved one stays (policy 0)

@@ -1,5 +1,5 @@
 -- Runs about sessions and refusals.
-use Rattle.std.specs.Prelude.{List, [], ◌∷◌, codes}
+use Rattle.std.specs.Prelude.{[], ◌∷◌, codes}
 use Rattle.model.specs.Scripts.{every_use, first_in, line, end, statistics, admit, leave, idle, ask, refused, Script, script}
 
 -- Sessions: refusals and the longest idle first

@@ -1,5 +1,5 @@
 -- Runs about expiry, flushing and the growth of the hash.
-use Rattle.std.specs.Prelude.{List, [], ◌∷◌, ◌++◌, codes}
+use Rattle.std.specs.Prelude.{[], ◌∷◌, ◌++◌, codes}
 use Rattle.model.specs.Scripts.{every_use, line, with_data, value, end, statistics, admit, ask, Script, script}
 
 -- Expiry: dead when found, counted once; negative is dead at once; the clock never runs back

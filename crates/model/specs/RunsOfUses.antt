@@ -1,5 +1,5 @@
 -- Runs about what is a use, and when a use moves a record.
-use Rattle.std.specs.Prelude.{List, [], ◌∷◌, ◌++◌, codes}
+use Rattle.std.specs.Prelude.{[], ◌∷◌, ◌++◌, codes}
 use Rattle.model.specs.Scripts.{every_use, sixty_seconds, first_in, line, many, with_data, value, end, admit, ask, Script, script}
 
 -- A first get

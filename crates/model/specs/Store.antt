@@ -1,5 +1,5 @@
 -- The records of a table, and the few things that are done to them: a record is found, used, removed or linked, and a chunk is granted.
-use Rattle.std.specs.Prelude.{ℕ, suc, ◌+◌, ◌-◌, ◌*◌, Bool, true, false, cond, not, ◌&&◌, List, [], ◌∷◌, ◌++◌, map, length, set, Some, None, filter, Option, nat_lt, slice_index_or, slice_set}
+use Rattle.std.specs.Prelude.{ℕ, ◌+◌, ◌-◌, Bool, true, false, cond, List, [], ◌∷◌, map, length, Some, None, filter, Option, nat_lt, slice_index_or, slice_set}
 use Rattle.std.specs.List.{flat_map}
 use Rattle.chained.specs.Growth.{grow_after, move_one}
 use Rattle.policy.specs.Meaning.{Meaning}

@@ -1,7 +1,7 @@
 -- What a story tells. A story is a list of happenings, the newest first.
 use Rattle.std.specs.Prelude.{◌≡◌, ℕ, suc, ◌+◌, ◌≤◌, Bool, true, false, cond, not, ◌||◌, List, [], ◌∷◌, filter, ◌==◌}
 use Rattle.std.specs.Str.{bytes_eq}
-use Rattle.model.specs.Records.{Key, Record}
+use Rattle.model.specs.Records.{Key}
 use Rattle.model.specs.Store.{Why, Replaced, Deleted, Flushed, Expired, Evicted, Dropped, Happening, Given, Stored, Moved, Left}
 
 -- the key is one of these

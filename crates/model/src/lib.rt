@@ -1,5 +1,7 @@
 // The reference table. What it is stands in specs/; no code runs here. Each function below is a promise that holds of every
 // run of it: its contract is the statement, so that the crate is proved only with the statement's proof.
+#![tactic(auto)]
+
 ghost use Rattle.model.specs.Promises.{OpeningsArePlanned, ALargerTableKeepsAll, NothingLeavesWhileThereIsRoom, EverythingIsAccountedFor, TheStoryIsTrue, EachRecordLeavesOnce, ACallTellsWhatItDid};
 ghost use Rattle.model.specs.Reasons.{EveryReasonIsTrue};
 
