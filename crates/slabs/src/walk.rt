@@ -22,7 +22,7 @@ impl Slab {
     /// The record nearest the back of a class that passes a test, if there is one.
     pub fn rearmost_that<T: RowTest>(&self, class: usize, test: &T) -> Option<u32>
         requires { ∥ Sound self.now ∥₁ }
-        ensures { (ls : ℕ → List ℕ) → Lists self.now ls → result ≡ rearmost (keep (λ i. picked test.now (slice_index_or (rows_of self.now) i blank)) (ls (held_of class))) }
+        ensures { (ls : ℕ → List ℕ) → Lists self.now ls → result ≡ rearmost (keep (λ i. T.picked test.now (slice_index_or (rows_of self.now) i blank)) (ls (held_of class))) }
     {
         let held = self.tally(class).used;
         let mut at = self.rearmost(class);

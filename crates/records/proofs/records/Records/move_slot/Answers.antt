@@ -18,23 +18,23 @@ use Rattle.records.proofs.records.Records.move_slot.Goals as goal
 pub move_one-requires : goal.move_one-requires
 move_one-requires c =
     let t = c.args.self.now in
-    ∥∥₁_map c.requires.standing (λ s. (s.indexed.ids, holds_as (size t.table) s.indexed.ids c.deref-mut.ensures.value (ap (map (λ row. row.chain)) c.deref-mut-2.ensures.value) (ap (map (λ row. row.tag.hash)) c.deref-mut-2.ensures.value) s.indexed.kept))
+    ∥∥₁_map c.requires.standing (λ s. (s.indexed.ids, holds_as (size t.table) s.indexed.ids c.deref_mut.ensures.value (ap (map (λ row. row.chain)) c.deref_mut-2.ensures.value) (ap (map (λ row. row.tag.hash)) c.deref_mut-2.ensures.value) s.indexed.kept))
 
 pub returns : goal.returns
 returns c =
     let t = c.args.self.now in
     let moved = c.move_one.ensures in
-    let rows_are = c.deref-mut-2.ensures.value in
-    let heads_are = c.deref-mut.ensures.value in
+    let rows_are = c.deref_mut-2.ensures.value in
+    let heads_are = c.deref_mut.ensures.value in
     let ws = c.move_one.new.rows in
     let hs = c.move_one.new.heads in
     let v = with_items t.slab.rows ws in
     let new = with_rows t.slab v in
-    let long : length ws ≡ t.slab.rows.len = omega (arith, ap length moved.rest, length-map ws unchained, length-map c.deref-mut-2.result.now unchained, c.deref-mut-2.ensures.len) in
+    let long : length ws ≡ t.slab.rows.len = omega (arith, ap length moved.rest, length-map ws unchained, length-map c.deref_mut-2.result.now unchained, c.deref_mut-2.ensures.len) in
     let out = with_items_is t.slab.rows ws long in
     let stays : map unchained (vec_items v) ≡ map unchained (rows_of t.slab) = ap (map unchained) out ∙ moved.rest ∙ ap (map unchained) rows_are in
     let homes_are = homes_same t.slab new stays refl in
-    let heads_long : length hs ≡ t.heads.len = omega (arith, c.move_one.auto.heads, c.deref-mut.ensures.len) in
+    let heads_long : length hs ≡ t.heads.len = omega (arith, c.move_one.auto.heads, c.deref_mut.ensures.len) in
     let tells = column_of_rest unchained told (λ _. refl) (rows_of t.slab) (rows_of new) stays in
     record {
       standing = ∥∥₁_map c.requires.standing (λ s.

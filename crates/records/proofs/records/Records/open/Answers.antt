@@ -15,7 +15,7 @@ returns c =
     let made = c.open-slab.ensures in
     let hs = c.open-table.new.heads in
     let few = rows_few plan (vec_len c.args.rows) s made.sound made.empty made.opened in
-    let long : length hs ≡ c.args.slots.len = omega (arith, c.open-table.auto.heads, c.deref-mut.ensures.len) in
+    let long : length hs ≡ c.args.slots.len = omega (arith, c.open-table.auto.heads, c.deref_mut.ensures.len) in
     let chains = map (λ row. row.chain) (rows_of s) in
     let hashes = map (λ row. row.tag.hash) (rows_of s) in
     record {

@@ -26,14 +26,14 @@ once homes i c n exact held = exact ∙ cond-true (eqb (get_or homes i 0) (held_
 pub remove-requires : goal.remove-requires
 remove-requires c =
     let t = c.args.self.now in
-    let rows_are = c.deref-mut-2.ensures.value in
-    let heads_are = c.deref-mut.ensures.value in
+    let rows_are = c.deref_mut-2.ensures.value in
+    let heads_are = c.deref_mut.ensures.value in
     let lt : c.args.i < length (homes_of t.slab) = within (homes_of t.slab) c.args.i (rw c.requires.held (omega arith)) in
     record {
       within = omega (arith, lt, length-map (rows_of t.slab) (λ row. row.home), ap length rows_are);
       inside = ∥∥₁_map c.requires.standing (λ s. (
         s.indexed.ids,
-        subst (λ hs. Keeps (λ row. row.chain) (λ row. row.tag.hash) t.table hs c.deref-mut-2.result.now s.indexed.ids) (sym heads_are)
+        subst (λ hs. Keeps (λ row. row.chain) (λ row. row.tag.hash) t.table hs c.deref_mut-2.result.now s.indexed.ids) (sym heads_are)
             (subst (λ rs. Keeps (λ row. row.chain) (λ row. row.tag.hash) t.table (vec_items t.heads) rs s.indexed.ids) (sym rows_are) s.indexed.kept),
         once (homes_of t.slab) c.args.i (class_at (layout t.slab) c.args.i) (count c.args.i s.indexed.ids) (s.indexed.exact c.args.i) c.requires.held,
       ));
@@ -43,10 +43,10 @@ pub remove-requires-2 : goal.remove-requires-2
 remove-requires-2 c =
     let t = c.args.self.now in
     let took = c.remove.ensures in
-    let rows_are = c.deref-mut-2.ensures.value in
+    let rows_are = c.deref_mut-2.ensures.value in
     let ws = c.remove.new.rows in
     let v = with_items t.slab.rows ws in
-    let long : length ws ≡ t.slab.rows.len = omega (arith, ap length took.rest, length-map ws unchained, length-map c.deref-mut-2.result.now unchained, c.deref-mut-2.ensures.len) in
+    let long : length ws ≡ t.slab.rows.len = omega (arith, ap length took.rest, length-map ws unchained, length-map c.deref_mut-2.result.now unchained, c.deref_mut-2.ensures.len) in
     let out = with_items_is t.slab.rows ws long in
     let stays : map unchained (vec_items v) ≡ map unchained (rows_of t.slab) = ap (map unchained) out ∙ took.rest ∙ ap (map unchained) rows_are in
     ∥∥₁_map c.requires.standing (λ s. sound_chained t.slab v stays s.sound)
@@ -71,13 +71,13 @@ returns c =
     let i = c.args.i in
     let took = c.remove.ensures in
     let gone = c.remove-2.ensures in
-    let rows_are = c.deref-mut-2.ensures.value in
-    let heads_are = c.deref-mut.ensures.value in
+    let rows_are = c.deref_mut-2.ensures.value in
+    let heads_are = c.deref_mut.ensures.value in
     let ws = c.remove.new.rows in
     let hs = c.remove.new.heads in
     let v = with_items t.slab.rows ws in
     let mid = with_rows t.slab v in
-    let long : length ws ≡ t.slab.rows.len = omega (arith, ap length took.rest, length-map ws unchained, length-map c.deref-mut-2.result.now unchained, c.deref-mut-2.ensures.len) in
+    let long : length ws ≡ t.slab.rows.len = omega (arith, ap length took.rest, length-map ws unchained, length-map c.deref_mut-2.result.now unchained, c.deref_mut-2.ensures.len) in
     let out = with_items_is t.slab.rows ws long in
     let stays : map unchained (vec_items v) ≡ map unchained (rows_of t.slab) = ap (map unchained) out ∙ took.rest ∙ ap (map unchained) rows_are in
     let homes_are = homes_same t.slab mid stays refl in
@@ -91,10 +91,10 @@ returns c =
     let indexed : Standing t → Indexed _ = λ s.
     let ids = s.indexed.ids in
     let kept = took.held ids
-    (subst (λ hs. Keeps (λ row. row.chain) (λ row. row.tag.hash) t.table hs c.deref-mut-2.result.now ids) (sym heads_are)
+    (subst (λ hs. Keeps (λ row. row.chain) (λ row. row.tag.hash) t.table hs c.deref_mut-2.result.now ids) (sym heads_are)
     (subst (λ rs. Keeps (λ row. row.chain) (λ row. row.tag.hash) t.table (vec_items t.heads) rs ids) (sym rows_are) s.indexed.kept))
     (once (homes_of t.slab) i class (count i ids) (s.indexed.exact i) c.requires.held) in
-    let heads_long : length hs ≡ t.heads.len = omega (arith, c.remove.auto.heads, c.deref-mut.ensures.len) in
+    let heads_long : length hs ≡ t.heads.len = omega (arith, c.remove.auto.heads, c.deref_mut.ensures.len) in
     record {
       ids = without i ids;
       kept = subst (λ h. Holds (size t.table) h (map (λ row. row.chain) (rows_of new)) (map (λ row. row.tag.hash) (rows_of new)) (without i ids)) (sym (with_items_is t.heads hs heads_long))

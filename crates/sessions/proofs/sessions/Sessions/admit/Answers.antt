@@ -42,12 +42,12 @@ returns-in_default c =
 pub enter-requires : goal.enter-requires
 enter-requires c =
     let self = c.args.self.now in
-    let lent = c.deref-mut-2.ensures.value in
+    let lent = c.deref_mut-2.ensures.value in
     ∥∥₁_map self.ok (λ t.
     let s = t.1 in (
       s.0,
       s.1,
-      placed_as self.roster s.0 s.1 c.deref-mut.ensures.value lent s.2,
+      placed_as self.roster s.0 s.1 c.deref_mut.ensures.value lent s.2,
       spare_once s.1 c.in-Some.i s.2.laid.spare.once (c.in-Some.ensures s.0 s.1 s.2),
       ap (first (of_caller c.args.caller)) (ap (λ rows. sessions_at rows s.0) lent ∙ sym s.3) ∙ not_found c.args.caller t.0 (sym (c.if-is_open.ensures t.0 s)),
     ))
@@ -55,12 +55,12 @@ enter-requires c =
 pub invariant_of-self : goal.invariant_of-self
 invariant_of-self c =
     let self = c.args.self.now in
-    let lent = c.deref-mut-2.ensures.value in (
+    let lent = c.deref_mut-2.ensures.value in (
       ∥∥₁_map self.ok (λ t.
           let s = t.1 in (
             _,
             shown_back c.enter.new.self _ self.slots self.rows c.enter.new.slots c.enter.new.rows (omega arith) (omega arith)
-                (c.enter.ensures.shown s.0 s.1 (placed_as self.roster s.0 s.1 c.deref-mut.ensures.value lent s.2)
+                (c.enter.ensures.shown s.0 s.1 (placed_as self.roster s.0 s.1 c.deref_mut.ensures.value lent s.2)
                 (spare_once s.1 c.in-Some.i s.2.laid.spare.once (c.in-Some.ensures s.0 s.1 s.2))
                 (ap (first (of_caller c.args.caller)) (ap (λ rows. sessions_at rows s.0) lent ∙ sym s.3) ∙ not_found c.args.caller t.0 (sym (c.if-is_open.ensures t.0 s)))),
           )),
@@ -75,11 +75,11 @@ returns c =
     let rows = c.enter.new.rows in
     let caller = c.args.caller in
     let second = c.args.second in
-    let lent = c.deref-mut-2.ensures.value in
+    let lent = c.deref_mut-2.ensures.value in
     let after : (xs : List Session) → Shown self.roster (vec_items self.slots) (vec_items self.rows) xs → Shown new slots rows (served caller second xs) =
     λ xs s.
     subst (λ ys. Shown new slots rows (served caller second ys)) (ap (λ rs. sessions_at rs s.0) lent ∙ sym s.3)
-    (c.enter.ensures.shown s.0 s.1 (placed_as self.roster s.0 s.1 c.deref-mut.ensures.value lent s.2)
+    (c.enter.ensures.shown s.0 s.1 (placed_as self.roster s.0 s.1 c.deref_mut.ensures.value lent s.2)
     (spare_once s.1 c.in-Some.i s.2.laid.spare.once (c.in-Some.ensures s.0 s.1 s.2))
     (ap (first (of_caller caller)) (ap (λ rs. sessions_at rs s.0) lent ∙ sym s.3) ∙ not_found caller xs (sym (c.if-is_open.ensures xs s)))) in
     record {
@@ -92,6 +92,6 @@ returns c =
           );
       grown = λ xs s _.
           c.enter.ensures.grown
-          ∙ ap₂ (λ n m. grow_after n m (size self.roster.callers)) (shown_count new slots rows (served caller second xs) (after xs s)) (ap length c.deref-mut.ensures.value ∙ s.2.laid.all_slots);
+          ∙ ap₂ (λ n m. grow_after n m (size self.roster.callers)) (shown_count new slots rows (served caller second xs) (after xs s)) (ap length c.deref_mut.ensures.value ∙ s.2.laid.all_slots);
       same = λ e. absurd (true≢false e);
     }

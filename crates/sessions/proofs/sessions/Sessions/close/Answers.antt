@@ -21,7 +21,7 @@ pub leave-requires : goal.leave-requires
 leave-requires c =
     ∥∥₁_map c.args.self.now.ok (λ t.
     let s = t.1 in
-    (s.0, s.1, placed_as c.args.self.now.roster s.0 s.1 c.deref-mut.ensures.value c.deref-mut-2.ensures.value s.2, (c.in-Some.ensures s.0 s.1 s.2).0))
+    (s.0, s.1, placed_as c.args.self.now.roster s.0 s.1 c.deref_mut.ensures.value c.deref_mut-2.ensures.value s.2, (c.in-Some.ensures s.0 s.1 s.2).0))
 
 pub invariant_of-self : goal.invariant_of-self
 invariant_of-self c =
@@ -34,8 +34,8 @@ invariant_of-self c =
             _,
             shown_back c.leave.new.self _ self.slots self.rows slots rows (omega arith) (omega arith)
                 (shown_without c.leave.new.self (vec_items self.slots) slots (vec_items self.rows) rows self.roster c.in-Some.i c.args.caller t.0 s
-                (c.leave.ensures.said ∙ ap (map session_of) c.deref-mut-2.ensures.value) f.0 f.1
-                (c.leave.ensures.placed s.0 s.1 (placed_as self.roster s.0 s.1 c.deref-mut.ensures.value c.deref-mut-2.ensures.value s.2) f.0)),
+                (c.leave.ensures.said ∙ ap (map session_of) c.deref_mut-2.ensures.value) f.0 f.1
+                (c.leave.ensures.placed s.0 s.1 (placed_as self.roster s.0 s.1 c.deref_mut.ensures.value c.deref_mut-2.ensures.value s.2) f.0)),
           )),
       tt,
     )
@@ -52,8 +52,8 @@ returns c =
             ap (has_session c.args.caller) s.3 ∙ sym (found (λ i. get_or col i (session 0 0)) c.args.caller s.0 (Some c.in-Some.i) f),
             shown_back c.leave.new.self _ self.slots self.rows slots rows (omega arith) (omega arith)
                 (shown_without c.leave.new.self (vec_items self.slots) slots (vec_items self.rows) rows self.roster c.in-Some.i c.args.caller xs s
-                (c.leave.ensures.said ∙ ap (map session_of) c.deref-mut-2.ensures.value) f.0 f.1
-                (c.leave.ensures.placed s.0 s.1 (placed_as self.roster s.0 s.1 c.deref-mut.ensures.value c.deref-mut-2.ensures.value s.2) f.0)),
+                (c.leave.ensures.said ∙ ap (map session_of) c.deref_mut-2.ensures.value) f.0 f.1
+                (c.leave.ensures.placed s.0 s.1 (placed_as self.roster s.0 s.1 c.deref_mut.ensures.value c.deref_mut-2.ensures.value s.2) f.0)),
           );
       size = ap size c.leave.ensures.callers;
       same = λ e. absurd (true≢false e);

@@ -23,7 +23,7 @@ returns-in_default c =
 pub renew-requires : goal.renew-requires
 renew-requires c =
     let self = c.args.self.now in
-    let lent = c.deref-mut.ensures.value in
+    let lent = c.deref_mut.ensures.value in
     ∥∥₁_map self.ok (λ t.
     let s = t.1 in
     let f = c.in-Some.ensures s.0 s.1 s.2 in (
@@ -38,7 +38,7 @@ renew-requires c =
 pub invariant_of-self : goal.invariant_of-self
 invariant_of-self c =
     let self = c.args.self.now in
-    let lent = c.deref-mut.ensures.value in (
+    let lent = c.deref_mut.ensures.value in (
       ∥∥₁_map self.ok (λ t.
           let s = t.1 in
           let f = c.in-Some.ensures s.0 s.1 s.2 in (
@@ -53,7 +53,7 @@ invariant_of-self c =
 pub returns : goal.returns
 returns c =
     let self = c.args.self.now in
-    let lent = c.deref-mut.ensures.value in
+    let lent = c.deref_mut.ensures.value in
     let col = map session_of (vec_items self.rows) in
     record {
       shown = λ xs s.

@@ -12,7 +12,7 @@ use Rattle.slabs.proofs.slab.Slab.enter.Goals as goal
 pub enter-requires : goal.enter-requires
 enter-requires c =
     let s = c.args.self.now in
-    let is : c.deref-mut.result.now ≡ vec_items s.rows = c.deref-mut.ensures.value in
+    let is : c.deref_mut.result.now ≡ vec_items s.rows = c.deref_mut.ensures.value in
     let stand = c.args.stand in
     let class = c.args.class in
     record {
@@ -29,15 +29,15 @@ pub returns : goal.returns
 returns c =
     let s = c.args.self.now in
     let classes = s.classes in
-    let lent = c.deref-mut.result.now in
+    let lent = c.deref_mut.result.now in
     let ws = c.enter.new.rows in
     let cls = c.enter.new.self in
     let stand = c.args.stand in
     let class = c.args.class in
     let i = c.args.i in
     let told = c.enter.ensures in
-    let is : lent ≡ vec_items s.rows = c.deref-mut.ensures.value in
-    let lasts : length ws ≡ s.rows.len = omega (arith, ap length told.rests, length-map ws rest, length-map lent rest, c.deref-mut.ensures.len) in
+    let is : lent ≡ vec_items s.rows = c.deref_mut.ensures.value in
+    let lasts : length ws ≡ s.rows.len = omega (arith, ap length told.rests, length-map ws rest, length-map lent rest, c.deref_mut.ensures.len) in
     let out = with_items_is s.rows ws lasts in
     let long : length classes ≡ 33 = search rules in
     let home : homes ws ≡ set (homes lent) i (list_of stand class) = told.homes ∙ ap (λ h. set (homes lent) i h) c.number-home.ensures in

@@ -13,7 +13,7 @@ use Rattle.slabs.proofs.slab.Slab.leave.Goals as goal
 pub leave-requires : goal.leave-requires
 leave-requires c =
     let s = c.args.self.now in
-    let is : c.deref-mut.result.now ≡ vec_items s.rows = c.deref-mut.ensures.value in
+    let is : c.deref_mut.result.now ≡ vec_items s.rows = c.deref_mut.ensures.value in
     let stand = c.args.stand in
     let class = c.args.class in
     record {
@@ -34,15 +34,15 @@ pub returns : goal.returns
 returns c =
     let s = c.args.self.now in
     let classes = s.classes in
-    let lent = c.deref-mut.result.now in
+    let lent = c.deref_mut.result.now in
     let ws = c.leave.new.rows in
     let cls = c.leave.new.self in
     let stand = c.args.stand in
     let class = c.args.class in
     let i = c.args.i in
     let told = c.leave.ensures in
-    let is : lent ≡ vec_items s.rows = c.deref-mut.ensures.value in
-    let lasts : length ws ≡ s.rows.len = omega (arith, ap length told.rests, length-map ws rest, length-map lent rest, c.deref-mut.ensures.len) in
+    let is : lent ≡ vec_items s.rows = c.deref_mut.ensures.value in
+    let lasts : length ws ≡ s.rows.len = omega (arith, ap length told.rests, length-map ws rest, length-map lent rest, c.deref_mut.ensures.len) in
     let out = with_items_is s.rows ws lasts in
     let long : length classes ≡ 33 = search rules in
     let home : homes ws ≡ set (homes lent) i 0 = told.homes in

@@ -13,12 +13,12 @@ returns c =
     let ws = c.blank_rows.new.rows in
     let v = c.truncate.new.self in
     let pages = c.pages_for-pages.result in
-    let lent = c.deref-mut.result.now in
+    let lent = c.deref_mut.result.now in
     let all : pages ≡ pages_of (vec_len c.args.rows) = c.pages_for-pages.ensures ∙ ap pages_of c.len.ensures in
     let few : pages ≤ 256 = omega arith in
-    let n : length lent ≡ 85 * pages = omega (arith, c.truncate.ensures.len, c.deref-mut.ensures.len) in
+    let n : length lent ≡ 85 * pages = omega (arith, c.truncate.ensures.len, c.deref_mut.ensures.len) in
     let blanks : ws ≡ replicate (85 * pages) blank = c.blank_rows.ensures ∙ ap (λ k. replicate k blank) n in
-    let long : length ws ≡ v.len = omega (arith, ap length blanks, length-replicate (85 * pages) blank, c.deref-mut.ensures.len) in
+    let long : length ws ≡ v.len = omega (arith, ap length blanks, length-replicate (85 * pages) blank, c.deref_mut.ensures.len) in
     let rows = with_items_is v ws long ∙ blanks in
     let plan = c.args.plan.now in
     let s : Slab = record { rows = with_items v ws; classes = c.cut_classes-classes.result; owners = c.unowned-owners.result; given = 0; pages = pages } in
