@@ -20,10 +20,10 @@ returns-then-end-bytes c = λ e.
       | then-end-bytes-via-else-end-bytes+then-bytes-end-lt2 w ↦ absurd (omega (arith, w.if-bytes-end-lt2.true))
     ]
 
-pub returns-in-default : goal.returns-in-default
-returns-in-default c = λ e.
+pub returns-in_default : goal.returns-in_default
+returns-in_default c = λ e.
     reading_many c.args.bytes.now c.args.end e
-    (omega (arith, c.in-default.ensures, ap (λ ls. length (tokens ls)) (front c.args.bytes.now c.args.end)))
+    (omega (arith, c.in_default.ensures, ap (λ ls. length (tokens ls)) (front c.args.bytes.now c.args.end)))
 
 pub returns-then-tokens-eq0 : goal.returns-then-tokens-eq0
 returns-then-tokens-eq0 c = λ e.
@@ -31,13 +31,13 @@ returns-then-tokens-eq0 c = λ e.
     reading_none c.args.bytes.now c.args.end e
     (sym same ∙ count_splits _ _ _ c.in-Some.ensures ∙ c.if-tokens-eq0.true)
 
-pub returns-in-Some-find-word : goal.returns-in-Some-find-word
-returns-in-Some-find-word c = λ e.
+pub returns-in-Some-find_word : goal.returns-in-Some-find_word
+returns-in-Some-find_word c = λ e.
     let bytes = c.args.bytes.now in
     let end = c.args.end in
     let same = ap (λ ls. length (tokens ls)) (front bytes end) in
     let some : 0 < length (tokens (take end bytes)) = omega (arith, same, count_splits _ _ _ c.in-Some.ensures) in
-    let says = reading_word bytes end e _ some (c.in-Some-find-word.ensures ∙ ap named c.token.ensures.text) in
+    let says = reading_word bytes end e _ some (c.in-Some-find_word.ensures ∙ ap named c.token.ensures.text) in
     subst (λ reading. Answers bytes reading c.request.result) (sym says) c.request.ensures
 
 pub returns-in-None : goal.returns-in-None
