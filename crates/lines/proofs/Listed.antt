@@ -1,5 +1,5 @@
 -- The list of words as the code holds it.
-use Rattle.std.proofs.Common.{◌≡◌, ℕ, ◌+◌, ◌<◌, ◌≤◌, Bool, true, false, cond, List, [], ◌∷◌, map, length, get_or, drop, Some, None, Decides, Option, sym, refl, ap, ◌∙◌, Bor}
+use Rattle.std.proofs.Common.{◌≡◌, ℕ, ◌+◌, ◌<◌, ◌≤◌, true, false, List, map, length, get_or, drop, Some, None, Option, ◌∙◌, Bor}
 use Rattle.lines.specs.declared.words.Word.{Word}
 use Rattle.lines.specs.Words.{Entry, named_in}
 use Rattle.std.proofs.lemmas.List.{at_drop_more, at_drop_all}

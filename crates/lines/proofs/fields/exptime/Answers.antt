@@ -1,4 +1,4 @@
-use Rattle.std.proofs.Common.{◌≡◌, ℕ, ◌<◌, ◌≤◌, length, drop, ℤ, pos, ◌-ℤ◌, neg_ℤ, Some, sym, ap, ◌∙◌, arith, w32, w64, to_z, of_z}
+use Rattle.std.proofs.Common.{◌≡◌, ℕ, ◌<◌, ◌≤◌, length, drop, pos, ◌-ℤ◌, neg_ℤ, Some, sym, ap, ◌∙◌, arith, w32, w64, to_z, of_z}
 use Rattle.lines.proofs.Bytewise.{exptime_minus, exptime_plain, number_bounded}
 use Rattle.lines.proofs.fields.exptime.Goals as goal
 use Rattle.lines.specs.Numbers.{number_of, above_zero, below_zero}

@@ -1,4 +1,4 @@
-use Rattle.std.proofs.Common.{◌≡◌, ◌<◌, length, sym, refl, ◌∙◌, arith}
+use Rattle.std.proofs.Common.{◌<◌, length, sym, refl, ◌∙◌, arith}
 use Rattle.lines.proofs.Bytewise.{passes, fails, good_key_by_bytes}
 use Rattle.lines.proofs.fields.is_key.Goals as goal
 use Rattle.lines.specs.Numbers.{key_byte, key_bytes}

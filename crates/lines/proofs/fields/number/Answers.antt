@@ -1,4 +1,4 @@
-use Rattle.std.proofs.Common.{◌≡◌, ◌+◌, ◌-◌, ◌*◌, ◌<◌, ◌≤◌, length, get_or, drop, Some, sym, refl, ap, ◌∙◌, arith}
+use Rattle.std.proofs.Common.{◌+◌, ◌-◌, ◌*◌, ◌<◌, ◌≤◌, length, get_or, drop, Some, sym, refl, ap, ◌∙◌, arith}
 use Rattle.lines.proofs.Bytewise.{passes, fails, number_good, number_no_digits, number_large, value_grows}
 use Rattle.lines.proofs.fields.number.Goals as goal
 use Rattle.lines.specs.Numbers.{value, value_after}

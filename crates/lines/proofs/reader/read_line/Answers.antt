@@ -1,10 +1,9 @@
-use Rattle.std.proofs.Common.{◌≡◌, ℕ, ◌+◌, ◌-◌, ◌<◌, List, [], length, get_or, take, drop, sym, ap, ◌∙◌, subst, arith}
+use Rattle.std.proofs.Common.{◌≡◌, ℕ, ◌-◌, ◌<◌, List, length, take, sym, ap, ◌∙◌, subst, arith}
 use Rattle.lines.proofs.Judging.{line_inside, reading_many, reading_none, reading_word}
 use Rattle.lines.proofs.Places.{count_splits}
 use Rattle.lines.proofs.reader.read_line.Goals as goal
 use Rattle.lines.proofs.reader.read_line.Goals.{then-end-bytes-via-then-end-bytes, then-end-bytes-via-else-end-bytes+then-bytes-end-lt2}
 use Rattle.lines.specs.Requests.{Answers}
-use Rattle.lines.specs.Spans.{Splits}
 use Rattle.lines.specs.Tokens.{tokens}
 use Rattle.lines.specs.Words.{named}
 

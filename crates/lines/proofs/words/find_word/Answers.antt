@@ -1,4 +1,4 @@
-use Rattle.std.proofs.Common.{◌≡◌, sym, refl, ◌∙◌, rules}
+use Rattle.std.proofs.Common.{sym, refl, ◌∙◌}
 use Rattle.lines.proofs.Listed.{among_hit, among_miss, among_none}
 use Rattle.lines.proofs.words.find_word.Goals as goal
 

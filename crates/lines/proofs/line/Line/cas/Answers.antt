@@ -1,4 +1,4 @@
-use Rattle.std.proofs.Common.{◌≡◌, [], get_or, sym, ap, ◌∙◌}
+use Rattle.std.proofs.Common.{[], sym, ap, ◌∙◌}
 use Rattle.lines.proofs.Lined.{no_verb}
 use Rattle.lines.proofs.line.Line.cas.Goals as goal
 use Rattle.lines.specs.Command.{Faulty}
