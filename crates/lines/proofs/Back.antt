@@ -1,5 +1,5 @@
 -- A request that was written for a command reads as that command.
-use Rattle.std.proofs.Common.{◌≡◌, ℕ, suc, ◌+◌, ◌^◌, ◌<◌, ◌≤◌, Bool, true, false, cond, ◌&&◌, List, [], ◌∷◌, ◌++◌, length, take, ℤ, pos, negsuc, Some, None, decimal, Option, sym, refl, ap, ◌∙◌, arith, rules}
+use Rattle.std.proofs.Common.{◌≡◌, ℕ, suc, ◌^◌, ◌<◌, ◌≤◌, true, false, cond, List, [], ◌∷◌, ◌++◌, length, take, ℤ, pos, negsuc, Some, decimal, refl, ap, ◌∙◌, arith, rules}
 use Rattle.lines.proofs.Bytewise.{exptime_plain, number_good}
 use Rattle.lines.proofs.Laying.{Solid, plain_spaced, reading_is, tokens_spaced}
 use Rattle.lines.specs.declared.Fault.TheVariants.{BadData}
@@ -7,7 +7,7 @@ use Rattle.lines.specs.declared.Verb.{Verb}
 use Rattle.lines.specs.declared.Verb.TheVariants.{Set, Add, Replace, Cas}
 use Rattle.lines.specs.Command.{Item, Command, Get, Store, Delete, Touch, FlushAll, Version, Quit, Stats, Asks, Faulty}
 use Rattle.lines.specs.Grammar.{Lawful, LawfulItem, LawfulVerb, ReadsBack, Short, item_tokens, line_tokens, spaced, store_tokens, tail}
-use Rattle.lines.specs.Numbers.{above_zero, below_zero, cas_of, exptime_of, flags_of, good_key, good_keys, key_bytes, key_byte, key_of, number_of, size_of, value, value_after}
+use Rattle.lines.specs.Numbers.{above_zero, below_zero, exptime_of, flags_of, good_key, good_keys, key_bytes, key_byte, key_of, number_of, size_of, value, value_after}
 use Rattle.lines.specs.Reading.{cas_verb, gathered, given, judged, storage}
 use Rattle.lines.specs.Tokens.{crlf}
 use Rattle.std.proofs.lemmas.Fmt.{decimal_nonempty, digits_decimal, length-decimal-le, digits_value-decimal}

@@ -1,10 +1,10 @@
 -- The reading of a line by its tokens.
-use Rattle.std.proofs.Common.{◌≡◌, ℕ, suc, ◌+◌, ◌-◌, ◌<◌, ◌≤◌, Bool, true, false, cond, eqb, List, [], ◌∷◌, length, get_or, take, drop, Some, None, Option, sym, refl, ap, ◌∙◌, subst, arith}
+use Rattle.std.proofs.Common.{◌≡◌, ℕ, suc, ◌+◌, ◌<◌, ◌≤◌, Bool, true, false, cond, eqb, List, [], ◌∷◌, length, get_or, take, drop, Some, None, Option, sym, refl, ap, ◌∙◌, arith}
 use Rattle.lines.specs.declared.Fault.TheVariants.{Unknown}
 use Rattle.lines.specs.declared.words.Word.{Word}
 use Rattle.lines.specs.declared.words.Word.TheVariants as word
 use Rattle.lines.specs.Command.{Faulty}
-use Rattle.lines.specs.Reading.{by_word, judged, read_at, reading, takes, worded}
+use Rattle.lines.specs.Reading.{by_word, judged, read_at, reading, takes}
 use Rattle.lines.specs.Tokens.{crlf, first_crlf, later, line_end, tokens}
 use Rattle.lines.specs.Words.{named}
 use Rattle.std.proofs.lemmas.List.{length-take}

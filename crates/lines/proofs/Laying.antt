@@ -1,5 +1,5 @@
 -- Tokens laid out in a line, and the line in a request.
-use Rattle.std.proofs.Common.{◌≡◌, ℕ, zero, suc, ◌+◌, ◌-◌, ◌<◌, ◌≤◌, Bool, true, false, cond, ◌&&◌, eqb, leb, List, [], ◌∷◌, ◌++◌, length, get_or, take, drop, replicate, Some, None, Option, sym, refl, ap, ◌∙◌, arith}
+use Rattle.std.proofs.Common.{◌≡◌, ℕ, zero, suc, ◌+◌, ◌-◌, ◌<◌, ◌≤◌, Bool, true, false, ◌&&◌, eqb, leb, List, [], ◌∷◌, ◌++◌, length, get_or, take, drop, replicate, Some, sym, refl, ap, ◌∙◌, arith}
 use lib.Seq.{take-append-add}
 use Rattle.lines.proofs.Cutting.{cut_here, glued}
 use Rattle.lines.specs.Grammar.{spaced}
@@ -7,7 +7,7 @@ use Rattle.lines.specs.Numbers.{key_byte, key_bytes}
 use Rattle.lines.specs.Reading.{judged, read_at, reading}
 use Rattle.lines.specs.Tokens.{crlf, filled, first_crlf, later, line_end, onto, pieces, tokens}
 use Rattle.std.proofs.lemmas.List.{drop_at, drop-drop, get_or-replicate, length-replicate, take_at}
-use Rattle.std.proofs.lemmas.Bool.{and_from, and_left, and_parts, cond-false, ne_eqb, ltb-true}
+use Rattle.std.proofs.lemmas.Bool.{and_from, and_left, and_parts, cond-false}
 use Rattle.std.proofs.lemmas.Bool.Decides.{nat_tests}
 use Rattle.std.specs.List.{AllByRecursion as All}
 

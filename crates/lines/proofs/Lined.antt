@@ -15,7 +15,7 @@ use Rattle.lines.specs.Reading.{alone, by_word, gathered, retrieval, storage, ta
 use Rattle.lines.specs.Requests.{Answers, KeysOf, key_list}
 use Rattle.lines.specs.Spans.{Splits, span_bytes, nth_span}
 use Rattle.lines.specs.Tokens.{tokens}
-use Rattle.std.proofs.lemmas.List.{drop-map, drop-take, get_or-drop, get_or-take, length-drop, length-take, length-take-le, take-take}
+use Rattle.std.proofs.lemmas.List.{drop-map, drop-take, get_or-drop, get_or-take, length-drop, length-take-le, take-take}
 use Rattle.std.proofs.lemmas.Bool.{cond-true, cond-false}
 
 pub count_tokens : (l : Line) → Cut l → length (toks l) ≡ l.tokens.count

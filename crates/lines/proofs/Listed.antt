@@ -1,12 +1,9 @@
 -- The list of words as the code holds it.
-use Rattle.std.proofs.Common.{◌≡◌, ℕ, ◌+◌, ◌<◌, ◌≤◌, Bool, true, false, cond, List, [], ◌∷◌, map, length, get_or, drop, Some, None, Decides, Option, sym, refl, ap, ◌∙◌, Bor}
+use Rattle.std.proofs.Common.{◌≡◌, ℕ, ◌+◌, ◌<◌, ◌≤◌, true, false, List, map, length, get_or, drop, Some, None, Option, ◌∙◌, Bor}
 use Rattle.lines.specs.declared.words.Word.{Word}
 use Rattle.lines.specs.Words.{Entry, named_in}
 use Rattle.std.proofs.lemmas.List.{at_drop_more, at_drop_all}
-use Rattle.std.proofs.lemmas.Slice.Eq.{slice_eq-Decides, bytes_eq-Decides}
-use Rattle.std.proofs.lemmas.Bool.Decides.{same_from_decides, Decides-eqb}
 use Rattle.std.proofs.lemmas.Bool.{cond-true, cond-false}
-use Rattle.std.specs.Cmp.Lexicographic.{Matches}
 use Rattle.std.specs.Str.{bytes_eq}
 
 -- A pair of the code's list as an entry of the list of words.
@@ -28,7 +25,3 @@ module _ (token : List ℕ) (ps : List (Bor (List ℕ) × Word)) (i : ℕ) (d : 
 -- Past the list no word is found.
 pub among_none : (token : List ℕ) (ps : List (Bor (List ℕ) × Word)) (i : ℕ) → length ps ≤ i → among (drop i ps) token ≡ None
 among_none token ps i l = at_drop_all (λ qs. among qs token) ps i l
-
--- What `==` on two slices answers.
-pub tested : (xs ys : List ℕ) (r b : Bool) → Matches (λ (a b : ℕ) (t : Bool). Decides t (a ≡ b)) xs ys r → r ≡ b → bytes_eq xs ys ≡ b
-tested xs ys r b m e = same_from_decides (bytes_eq xs ys) r (bytes_eq-Decides xs ys) (slice_eq-Decides Decides-eqb xs ys r m) ∙ e

@@ -1,5 +1,5 @@
 -- Parts of the bytes brought, and their places.
-use Rattle.std.proofs.Common.{◌≡◌, ℕ, ◌+◌, ◌-◌, ◌<◌, ◌≤◌, List, [], ◌∷◌, map, length, get_or, take, drop, sym, refl, ap, ◌∙◌, arith}
+use Rattle.std.proofs.Common.{◌≡◌, ℕ, ◌+◌, ◌-◌, ◌<◌, ◌≤◌, List, [], map, length, get_or, take, drop, sym, ap, ◌∙◌, arith}
 use Rattle.lines.specs.declared.request.Part.{Part}
 use Rattle.lines.specs.declared.tokens.Span.{Span}
 use Rattle.lines.specs.Requests.{Lies}

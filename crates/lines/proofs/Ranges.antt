@@ -1,20 +1,19 @@
 -- A command that some bytes ask for is a lawful one.
-use Rattle.std.proofs.Common.{◌≡◌, ℕ, zero, suc, ◌^◌, ◌<◌, ◌≤◌, Bool, true, false, cond, ◌&&◌, eqb, leb, List, [], ◌∷◌, length, get_or, take, drop, ℤ, pos, negsuc, neg_ℤ, Some, None, Option, sym, refl, ap, ◌∙◌, subst, arith}
+use Rattle.std.proofs.Common.{◌≡◌, ℕ, zero, suc, ◌≤◌, Bool, true, false, cond, ◌&&◌, eqb, leb, List, [], ◌∷◌, length, get_or, take, drop, ℤ, pos, neg_ℤ, Some, None, Option, sym, refl, ap, ◌∙◌, subst, arith}
 use Rattle.lines.proofs.Bytewise.{number_bounded}
 use Rattle.lines.specs.declared.Fault.{Fault}
 use Rattle.lines.specs.declared.Verb.{Verb}
 use Rattle.lines.specs.declared.Verb.TheVariants.{Set, Add, Replace, Cas}
 use Rattle.lines.specs.declared.words.Word.{Word}
 use Rattle.lines.specs.declared.words.Word.TheVariants as word
-use Rattle.lines.specs.Command.{Command, Get, Store, Delete, Touch, FlushAll, Version, Quit, Stats, Reading, Asks, Faulty}
+use Rattle.lines.specs.Command.{Command, Get, Delete, Touch, FlushAll, Version, Quit, Stats, Reading, Asks, Faulty}
 use Rattle.lines.specs.Grammar.{Lawful, LawfulVerb, ReadsLawful, Short}
 use Rattle.lines.specs.Numbers.{above_zero, below_zero, cas_of, exptime_of, flags_of, good_key, good_keys, key_of, number_of, size_of}
-use Rattle.lines.specs.Reading.{alone, by_word, cas_verb, gathered, given, judged, read_at, retrieval, storage, takes, with_block, worded}
+use Rattle.lines.specs.Reading.{alone, by_word, cas_verb, given, judged, read_at, retrieval, storage, takes, worded}
 use Rattle.lines.specs.Tokens.{crlf, line_end, tokens}
 use Rattle.lines.specs.Words.{named}
 use Rattle.std.proofs.lemmas.List.{length-take}
 use Rattle.std.proofs.lemmas.Bool.{and_parts, leb-true}
-use Rattle.std.proofs.lemmas.Bool.Decides.{nat_tests}
 use Rattle.std.specs.Str.{bytes_eq}
 
 -- What must have been so, where a step of the judging came to a command.

@@ -1,5 +1,5 @@
 -- A request of the code: which command it says, and that its parts lie in the bytes brought.
-use Rattle.std.specs.Prelude.{◌≡◌, ℕ, ◌+◌, ◌<◌, ◌≤◌, List, [], ◌∷◌, map, length, take, drop, Ok, Err, Option, Result, MatchOption, slice_index_or}
+use Rattle.std.specs.Prelude.{◌≡◌, ℕ, ◌+◌, ◌<◌, ◌≤◌, List, [], map, length, take, drop, Ok, Err, Option, Result, MatchOption, slice_index_or}
 use Rattle.lines.specs.declared.Fault.{Fault}
 use Rattle.lines.specs.declared.request.Keys.{Keys}
 use Rattle.lines.specs.declared.request.Part.{Part}

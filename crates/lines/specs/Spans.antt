@@ -1,5 +1,5 @@
 -- Tokens by their places in the line.
-use Rattle.std.specs.Prelude.{◌≡◌, ℕ, ◌+◌, ◌<◌, ◌≤◌, List, [], ◌∷◌, map, length, take, drop, slice_index_or}
+use Rattle.std.specs.Prelude.{◌≡◌, ℕ, ◌+◌, ◌<◌, ◌≤◌, List, map, length, take, drop, slice_index_or}
 use Rattle.lines.specs.declared.tokens.Span.{Span}
 use Rattle.lines.specs.Tokens.{tokens}
 

@@ -1,5 +1,5 @@
 -- The line of a request, and its tokens.
-use Rattle.std.specs.Prelude.{ℕ, suc, Bool, true, false, cond, List, [], ◌∷◌, take, Some, None, Option, ◌==◌}
+use Rattle.std.specs.Prelude.{ℕ, suc, cond, List, [], ◌∷◌, take, Some, None, Option, ◌==◌}
 use Rattle.std.specs.Str.{bytes_eq}
 
 -- The two bytes that end a line and a data block: CR, LF.

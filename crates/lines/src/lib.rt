@@ -1,5 +1,7 @@
 //! The reader of the text protocol: the bytes of one request to a request that borrows from them.
 
+#![tactic(auto)]
+
 mod fields;
 mod line;
 mod reader;

@@ -8,16 +8,16 @@ loop-at-init c = record { size = refl; few = omega arith; here = omega arith; in
 
 pub loop-at-preserved : goal.loop-at-preserved
 loop-at-preserved c =
-    let found = c.token-end-end.ensures in
-    sofar_token c.args.line.now c.loop-at.spans c.loop-at.count c.loop-at.at c.loop-at.invariant c.token-end-end.result
+    let found = c.token_end-end.ensures in
+    sofar_token c.args.line.now c.loop-at.spans c.loop-at.count c.loop-at.at c.loop-at.invariant c.token_end-end.result
     (omega (arith, c.loop-at.invariant.few)) found.beyond found.within found.cut
 
 pub loop-at-preserved-then-line-at-eq32 : goal.loop-at-preserved-then-line-at-eq32
 loop-at-preserved-then-line-at-eq32 c = sofar_space _ _ _ _ c.loop-at.invariant c.loop-at-test.true c.if-line-at-eq32.true
 
-pub returns-then-count-eq-TOKEN-LIMIT : goal.returns-then-count-eq-TOKEN-LIMIT
-returns-then-count-eq-TOKEN-LIMIT c =
-    sofar_full c.args.line.now c.loop-at.spans c.loop-at.count c.loop-at.at c.loop-at.invariant c.if-count-eq-TOKEN-LIMIT.true
+pub returns-then-count-eq-TOKEN_LIMIT : goal.returns-then-count-eq-TOKEN_LIMIT
+returns-then-count-eq-TOKEN_LIMIT c =
+    sofar_full c.args.line.now c.loop-at.spans c.loop-at.count c.loop-at.at c.loop-at.invariant c.if-count-eq-TOKEN_LIMIT.true
     (tokens_some c.args.line.now c.loop-at.at c.loop-at-test.true c.if-line-at-eq32.false)
 
 pub returns : goal.returns

@@ -1,4 +1,4 @@
-use Rattle.std.proofs.Common.{sym, ◌∙◌, arith}
+use Rattle.std.proofs.Common.{◌∙◌, arith}
 use Rattle.lines.proofs.Cutting.{begun_none, begun_more, begun_cut}
 use Rattle.lines.proofs.tokens.token_end.Goals as goal
 

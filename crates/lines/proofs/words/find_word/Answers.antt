@@ -1,5 +1,5 @@
-use Rattle.std.proofs.Common.{◌≡◌, sym, refl, ◌∙◌, rules}
-use Rattle.lines.proofs.Listed.{among_hit, among_miss, among_none, tested}
+use Rattle.std.proofs.Common.{sym, refl, ◌∙◌}
+use Rattle.lines.proofs.Listed.{among_hit, among_miss, among_none}
 use Rattle.lines.proofs.words.find_word.Goals as goal
 
 pub loop-text-init : goal.loop-text-init
@@ -7,12 +7,12 @@ loop-text-init c = refl
 
 pub returns-then-eq : goal.returns-then-eq
 returns-then-eq c =
-    sym (among_hit _ _ c.loop-text.text-index _ c.loop-text-test.true (tested _ _ _ _ c.eq.ensures c.if-eq.true))
+    sym (among_hit _ _ c.loop-text.text-index _ c.loop-text-test.true (sym c.eq.ensures ∙ c.if-eq.true))
     ∙ c.loop-text.invariant
 
 pub loop-text-preserved : goal.loop-text-preserved
 loop-text-preserved c =
-    sym (among_miss _ _ c.loop-text.text-index _ c.loop-text-test.true (tested _ _ _ _ c.eq.ensures c.if-eq.false))
+    sym (among_miss _ _ c.loop-text.text-index _ c.loop-text-test.true (sym c.eq.ensures ∙ c.if-eq.false))
     ∙ c.loop-text.invariant
 
 pub returns : goal.returns

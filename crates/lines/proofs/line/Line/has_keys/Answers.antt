@@ -10,14 +10,14 @@ pub loop-i-preserved : goal.loop-i-preserved
 loop-i-preserved c =
     let line = c.args.self.now in
     let here : c.loop-i.i < length (toks line) = omega (arith, count_tokens line c.requires.cut) in
-    sym (passes [] good_key good_keys (λ _ _. refl) (toks line) c.loop-i.i here (ap good_key (sym c.token.ensures.text) ∙ sym c.if-not-is-key.ensures))
+    sym (passes [] good_key good_keys (λ _ _. refl) (toks line) c.loop-i.i here (ap good_key (sym c.token.ensures.text) ∙ sym c.if-not-is_key.ensures))
     ∙ c.loop-i.invariant
 
-pub returns-then-not-is-key : goal.returns-then-not-is-key
-returns-then-not-is-key c =
+pub returns-then-not-is_key : goal.returns-then-not-is_key
+returns-then-not-is_key c =
     let line = c.args.self.now in
     let here : c.loop-i.i < length (toks line) = omega (arith, count_tokens line c.requires.cut) in
-    sym (fails [] good_key good_keys (λ _ _. refl) (toks line) c.loop-i.i here (ap good_key (sym c.token.ensures.text) ∙ sym c.if-not-is-key.ensures))
+    sym (fails [] good_key good_keys (λ _ _. refl) (toks line) c.loop-i.i here (ap good_key (sym c.token.ensures.text) ∙ sym c.if-not-is_key.ensures))
     ∙ c.loop-i.invariant
 
 pub returns : goal.returns

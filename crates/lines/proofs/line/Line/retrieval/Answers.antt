@@ -10,4 +10,4 @@ returns c =
     got line.bytes.now line.end line.tokens.spans line.tokens.count _
     (omega (arith, c.requires.cut.ended)) (omega (arith, c.requires.some)) c.requires.few c.requires.cut.split
     (ap (λ n. take n line.bytes.now) whole) refl refl
-    c.args.cas (rest line) (sym c.if-not-has-keys.ensures) c.in-ok-alone.ensures
+    c.args.cas (rest line) (sym c.if-not-has_keys.ensures) c.in_ok-alone.ensures
