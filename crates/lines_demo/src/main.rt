@@ -3,6 +3,8 @@
 //! In a request `\r`, `\n` and `\t` are those bytes, `\xHH` is a byte in hexadecimal, `\\` a backslash, and `\(N)` says that the byte
 //! before it stands N times.
 
+#![tactic(auto)]
+
 mod notation;
 mod sayings;
 
