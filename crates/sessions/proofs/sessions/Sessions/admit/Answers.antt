@@ -55,17 +55,16 @@ enter-requires c =
 pub invariant_of-self : goal.invariant_of-self
 invariant_of-self c =
     let self = c.args.self.now in
-    let lent = c.deref_mut-2.ensures.value in (
-      ∥∥₁_map self.ok (λ t.
+    let lent = c.deref_mut-2.ensures.value in record {
+      ok = ∥∥₁_map self.ok (λ t.
           let s = t.1 in (
             _,
             shown_back c.enter.new.self _ self.slots self.rows c.enter.new.slots c.enter.new.rows (omega arith) (omega arith)
                 (c.enter.ensures.shown s.0 s.1 (placed_as self.roster s.0 s.1 c.deref_mut.ensures.value lent s.2)
                 (spare_once s.1 c.in-Some.i s.2.laid.spare.once (c.in-Some.ensures s.0 s.1 s.2))
                 (ap (first (of_caller c.args.caller)) (ap (λ rows. sessions_at rows s.0) lent ∙ sym s.3) ∙ not_found c.args.caller t.0 (sym (c.if-is_open.ensures t.0 s)))),
-          )),
-      tt,
-    )
+          ));
+    }
 
 pub returns : goal.returns
 returns c =

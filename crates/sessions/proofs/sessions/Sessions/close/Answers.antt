@@ -27,8 +27,8 @@ pub invariant_of-self : goal.invariant_of-self
 invariant_of-self c =
     let self = c.args.self.now in
     let slots = c.leave.new.slots in
-    let rows = c.leave.new.rows in (
-      ∥∥₁_map self.ok (λ t.
+    let rows = c.leave.new.rows in record {
+      ok = ∥∥₁_map self.ok (λ t.
           let s = t.1 in
           let f = c.in-Some.ensures s.0 s.1 s.2 in (
             _,
@@ -36,9 +36,8 @@ invariant_of-self c =
                 (shown_without c.leave.new.self (vec_items self.slots) slots (vec_items self.rows) rows self.roster c.in-Some.i c.args.caller t.0 s
                 (c.leave.ensures.said ∙ ap (map session_of) c.deref_mut-2.ensures.value) f.0 f.1
                 (c.leave.ensures.placed s.0 s.1 (placed_as self.roster s.0 s.1 c.deref_mut.ensures.value c.deref_mut-2.ensures.value s.2) f.0)),
-          )),
-      tt,
-    )
+          ));
+    }
 
 pub returns : goal.returns
 returns c =

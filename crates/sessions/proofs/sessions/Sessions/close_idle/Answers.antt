@@ -11,12 +11,11 @@ close_idle-requires c = ∥∥₁_map c.args.self.now.ok (λ t. (t.0, shown_as c
 
 pub invariant_of-self : goal.invariant_of-self
 invariant_of-self c =
-    let self = c.args.self.now in (
-      ∥∥₁_map self.ok (λ t.
+    let self = c.args.self.now in record {
+      ok = ∥∥₁_map self.ok (λ t.
           let n = c.close_idle.ensures.shown t.0 (shown_as self.roster t.0 c.deref_mut.ensures.value c.deref_mut-2.ensures.value t.1) in
-          (n.0, shown_back c.close_idle.new.self n.0 self.slots self.rows c.close_idle.new.slots c.close_idle.new.rows (omega arith) (omega arith) n.3)),
-      tt,
-    )
+          (n.0, shown_back c.close_idle.new.self n.0 self.slots self.rows c.close_idle.new.slots c.close_idle.new.rows (omega arith) (omega arith) n.3));
+    }
 
 pub returns : goal.returns
 returns c =

@@ -8,14 +8,13 @@ move_slot-requires c = ∥∥₁_map c.args.self.now.ok (λ t. (t.0, shown_as c.
 
 pub invariant_of-self : goal.invariant_of-self
 invariant_of-self c =
-    let self = c.args.self.now in (
-      ∥∥₁_map self.ok (λ t. (
+    let self = c.args.self.now in record {
+      ok = ∥∥₁_map self.ok (λ t. (
         t.0,
         shown_back c.move_slot.new.self t.0 self.slots self.rows c.move_slot.new.slots c.move_slot.new.rows (omega arith) (omega arith)
             (c.move_slot.ensures.shown t.0 (shown_as self.roster t.0 c.deref_mut.ensures.value c.deref_mut-2.ensures.value t.1)),
-      )),
-      tt,
-    )
+      ));
+    }
 
 pub returns : goal.returns
 returns c =

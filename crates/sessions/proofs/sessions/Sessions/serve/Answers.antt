@@ -38,17 +38,16 @@ renew-requires c =
 pub invariant_of-self : goal.invariant_of-self
 invariant_of-self c =
     let self = c.args.self.now in
-    let lent = c.deref_mut.ensures.value in (
-      ∥∥₁_map self.ok (λ t.
+    let lent = c.deref_mut.ensures.value in record {
+      ok = ∥∥₁_map self.ok (λ t.
           let s = t.1 in
           let f = c.in-Some.ensures s.0 s.1 s.2 in (
             _,
             shown_as c.renew.new.self _ refl (with_items_is self.rows c.renew.new.rows (omega arith))
                 (c.renew.ensures.shown (vec_items self.slots) s.0 s.1 (placed_as self.roster s.0 s.1 refl lent s.2) f.0
                 (ap (λ rows. (get_or (map session_of rows) c.in-Some.i (session 0 0)).caller) lent ∙ f.1)),
-          )),
-      tt,
-    )
+          ));
+    }
 
 pub returns : goal.returns
 returns c =

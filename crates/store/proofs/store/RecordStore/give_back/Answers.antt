@@ -8,7 +8,7 @@ pub give_back-requires : goal.give_back-requires
 give_back-requires c = record { standing = standing c.args.self.now; granted = c.requires.granted }
 
 pub invariant_of-self : goal.invariant_of-self
-invariant_of-self c = (stands_on c.args.self.now c.give_back.ensures.standing, tt)
+invariant_of-self c = record { ok = stands_on c.args.self.now c.give_back.ensures.standing }
 
 pub returns : goal.returns
 returns c =

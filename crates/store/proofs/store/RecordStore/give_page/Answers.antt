@@ -7,7 +7,7 @@ pub give_page-requires : goal.give_page-requires
 give_page-requires c = record { standing = standing c.args.self.now }
 
 pub invariant_of-self : goal.invariant_of-self
-invariant_of-self c = (stands_on c.args.self.now c.give_page.ensures.standing, tt)
+invariant_of-self c = record { ok = stands_on c.args.self.now c.give_page.ensures.standing }
 
 pub returns : goal.returns
 returns c =

@@ -7,7 +7,7 @@ pub grow_after-requires : goal.grow_after-requires
 grow_after-requires c = record { standing = standing c.args.self.now }
 
 pub invariant_of-self : goal.invariant_of-self
-invariant_of-self c = (stands_on c.args.self.now c.grow_after.ensures.standing, tt)
+invariant_of-self c = record { ok = stands_on c.args.self.now c.grow_after.ensures.standing }
 
 pub returns : goal.returns
 returns c =

@@ -10,7 +10,7 @@ pub put-requires : goal.put-requires
 put-requires c = record { standing = standing c.args.self.now; granted = c.requires.granted; fits = c.requires.fits; memory = c.requires.memory }
 
 pub invariant_of-self : goal.invariant_of-self
-invariant_of-self c = (stands_with c.args.self.now c.note_new.new.soonest c.put.ensures.standing c.note_new.auto.soonest, tt)
+invariant_of-self c = record { ok = stands_with c.args.self.now c.note_new.new.soonest c.put.ensures.standing c.note_new.auto.soonest }
 
 pub returns : goal.returns
 returns c =

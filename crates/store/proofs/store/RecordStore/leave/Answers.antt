@@ -7,7 +7,7 @@ pub unlink-requires : goal.unlink-requires
 unlink-requires c = record { standing = standing c.args.self.now; held = c.requires }
 
 pub invariant_of-self : goal.invariant_of-self
-invariant_of-self c = (stands_on c.args.self.now c.unlink.ensures.standing, tt)
+invariant_of-self c = record { ok = stands_on c.args.self.now c.unlink.ensures.standing }
 
 pub returns : goal.returns
 returns c =

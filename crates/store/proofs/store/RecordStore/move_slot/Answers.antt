@@ -7,7 +7,7 @@ pub move_slot-requires : goal.move_slot-requires
 move_slot-requires c = record { standing = standing c.args.self.now }
 
 pub invariant_of-self : goal.invariant_of-self
-invariant_of-self c = (stands_on c.args.self.now c.move_slot.ensures.standing, tt)
+invariant_of-self c = record { ok = stands_on c.args.self.now c.move_slot.ensures.standing }
 
 pub returns : goal.returns
 returns c =

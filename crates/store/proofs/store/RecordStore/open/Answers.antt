@@ -3,7 +3,7 @@ use Rattle.store.proofs.Opens.{stands_opened, pages_served, shown_opened}
 use Rattle.store.proofs.store.RecordStore.open.Goals as goal
 
 pub invariant_of-result : goal.invariant_of-result
-invariant_of-result c = (stands_opened c.never.result _ c.never.ensures c.open-records.ensures.standing, tt)
+invariant_of-result c = record { ok = stands_opened c.never.result _ c.never.ensures c.open-records.ensures.standing }
 
 pub returns : goal.returns
 returns c =

@@ -21,7 +21,7 @@ pub rearmost_dead-requires : goal.rearmost_dead-requires
 rearmost_dead-requires c = record { standing = standing c.args.self.now }
 
 pub invariant_of-self : goal.invariant_of-self
-invariant_of-self c = (stands_with c.args.self.now _ (standing c.args.self.now) (length-set c.args.self.now.soonest c.args.class (c.from-in_default.result + 1)), tt)
+invariant_of-self c = record { ok = stands_with c.args.self.now _ (standing c.args.self.now) (length-set c.args.self.now.soonest c.args.class (c.from-in_default.result + 1)) }
 
 pub returns-in_default : goal.returns-in_default
 returns-in_default c =

@@ -9,7 +9,7 @@ pub set_expiry-requires : goal.set_expiry-requires
 set_expiry-requires c = record { standing = standing c.args.self.now; held = c.requires.held }
 
 pub invariant_of-self : goal.invariant_of-self
-invariant_of-self c = (stands_with c.args.self.now c.note_expiry.new.soonest c.set_expiry.ensures.standing c.note_expiry.auto.soonest, tt)
+invariant_of-self c = record { ok = stands_with c.args.self.now c.note_expiry.new.soonest c.set_expiry.ensures.standing c.note_expiry.auto.soonest }
 
 pub returns : goal.returns
 returns c =

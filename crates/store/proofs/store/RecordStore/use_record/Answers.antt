@@ -12,7 +12,7 @@ pub bring_to_front-requires : goal.bring_to_front-requires
 bring_to_front-requires g c = record { standing = standing c.args.self.now; held = c.requires.held }
 
 pub invariant_of-self : goal.invariant_of-self
-invariant_of-self g c = (stands_on c.args.self.now c.bring_to_front.ensures.standing, tt)
+invariant_of-self g c = record { ok = stands_on c.args.self.now c.bring_to_front.ensures.standing }
 
 pub returns-then-moves : goal.returns-then-moves
 returns-then-moves g c =
