@@ -37,7 +37,7 @@ def turned(name):
 
 def files(ending):
     for folder, dirs, names in os.walk("crates"):
-        dirs[:] = sorted(d for d in dirs if d not in ("out", "target", "must-fail", "data"))
+        dirs[:] = sorted(d for d in dirs if d not in ("out", "target", "must-fail"))
         for n in sorted(names):
             if n.endswith(ending):
                 yield os.path.join(folder, n)

@@ -1,12 +1,12 @@
 use Rattle.std.proofs.Common.{◌≡◌, ℕ, ◌+◌, ◌*◌, ◌%◌, ◌<◌, ◌≤◌, List, length, get_or, drop, sym, ap, ◌∙◌, arith}
 use mathlib.Core.Logic.{∥∥₁_map}
 use Rattle.std.proofs.lemmas.List.{length-take}
-use Rattle.slab.specs.Rows.{blank}
-use Rattle.slab.specs.Layouts.{start}
-use Rattle.slab.specs.Slabs.{rows_of, homes-of, layout}
-use Rattle.slab.specs.Records.{bytes-at, data-lens}
-use Rattle.slab.proofs.Ends.{record-fits, chunk_inside}
-use Rattle.records.proofs.Telling.{at-column}
+use Rattle.slabs.specs.Rows.{blank}
+use Rattle.slabs.specs.Layouts.{start}
+use Rattle.slabs.specs.Slabs.{rows_of, homes_of, layout}
+use Rattle.slabs.specs.Records.{bytes_at, data_lens}
+use Rattle.slabs.proofs.Ends.{record_fits, chunk_inside}
+use Rattle.records.proofs.Telling.{at_column}
 use Rattle.records.proofs.records.Records.data.Goals as goal
 
 pub data_of-requires : goal.data_of-requires
@@ -21,14 +21,14 @@ returns c =
     let i = c.args.i in
     let memory = c.args.memory.now in
     let row = get_or (rows_of s) i blank in
-    let key = at-column (λ r. r.key_len) (rows_of s) i in
-    let block = at-column (λ r. r.data_len) (rows_of s) i in
+    let key = at_column (λ r. r.key_len) (rows_of s) i in
+    let block = at_column (λ r. r.data_len) (rows_of s) i in
     let is = c.data_of.ensures.is c.unwrap.result c.unwrap.ensures
-    ∙ ap (λ k. bytes-at memory (start (layout s) i + k) (get_or (data-lens (rows_of s)) i 0)) key
-    ∙ ap (λ n. bytes-at memory (start (layout s) i + row.key_len) n) block in
+    ∙ ap (λ k. bytes_at memory (start (layout s) i + k) (get_or (data_lens (rows_of s)) i 0)) key
+    ∙ ap (λ n. bytes_at memory (start (layout s) i + row.key_len) n) block in
     let sound = ∥∥₁_map c.requires.standing (λ st. st.sound) in
-    let span = at-column (λ r. r.key_len + r.data_len) (rows_of s) i in
-    let fits = record-fits s sound i c.requires.held in
+    let span = at_column (λ r. r.key_len + r.data_len) (rows_of s) i in
+    let fits = record_fits s sound i c.requires.held in
     let inside = chunk_inside s sound i (rw c.requires.held (omega arith)) in
     record {
       «data» = is;

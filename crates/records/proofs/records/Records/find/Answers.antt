@@ -6,7 +6,7 @@ use Rattle.records.proofs.Searching.{lent_search, searched_held, searched}
 use Rattle.records.proofs.records.Records.find.Goals as goal
 
 pub invariant_of-pages : goal.invariant_of-pages
-invariant_of-pages c = (∥∥₁_map c.requires.standing (λ s. s.sound), tt)
+invariant_of-pages c = record { sound = ∥∥₁_map c.requires.standing (λ s. s.sound) }
 
 -- what the table keeps over slots and rows as they are lent
 pub find-requires : goal.find-requires
