@@ -28,6 +28,10 @@ fn store(slab: &mut Slab, memory: &mut [u8], class: usize, key: &[u8], block: &[
     requires { Ready slab.old (length memory.old) }
     ensures { Ready slab.new (length memory.new) }
 {
+    let room = slab.size(class) as usize;
+    if key.len() > room || block.len() > room - key.len() {
+        return None;
+    }
     let tag = Tag {
         hash: 0,
         flags: 7,
@@ -38,13 +42,7 @@ fn store(slab: &mut Slab, memory: &mut [u8], class: usize, key: &[u8], block: &[
     let Some(grant) = slab.take(class) else {
         return None;
     };
-    match slab.link(grant, memory, key, block, tag) {
-        Ok(row) => Some(row),
-        Err(grant) => {
-            slab.give_back(grant);
-            None
-        }
-    }
+    Some(slab.link(grant, memory, key, block, tag))
 }
 
 /// Puts the records from number `first` on into a class, at most five, and keeps copies of those that found room.
@@ -79,7 +77,11 @@ pub fn forget(slab: &mut Slab, memory: &[u8], copies: &mut Vec<Kept>, at: usize)
         return false;
     }
     let row = copies.remove(at).row;
-    slab.remove(row)
+    let held = slab.holds(row);
+    if held {
+        slab.remove(row);
+    }
+    held
 }
 
 /// Grants a chunk of a class and returns it unused. Says whether there was one.
@@ -96,11 +98,8 @@ pub fn borrow_chunk(slab: &mut Slab, memory: &[u8], class: usize) -> bool
     }
 }
 
-fn same(a: Option<&[u8]>, b: &[u8]) -> bool {
-    match a {
-        Some(a) => a == b,
-        None => false,
-    }
+fn same(a: &[u8], b: &[u8]) -> bool {
+    a == b
 }
 
 /// Whether every record has the bytes of its copy.
@@ -108,6 +107,9 @@ pub fn agree(slab: &Slab, memory: &[u8], copies: &[Kept]) -> bool
     requires { Ready slab.now (length memory.now) }
 {
     for kept in copies {
+        if !slab.holds(kept.row) {
+            return false;
+        }
         if !same(slab.key_of(memory, kept.row), &kept.key) {
             return false;
         }

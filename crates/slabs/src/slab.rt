@@ -5,6 +5,7 @@ ghost use Rattle.std.specs.Prelude.{◌≡◌};
 use crate::class::Class;
 use crate::row::Row;
 
+mod asking;
 mod chunks;
 mod lists;
 mod opening;

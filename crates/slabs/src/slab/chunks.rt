@@ -1,12 +1,12 @@
 //! Chunks that are free, granted and returned, and records that leave or move.
 
-ghost use Rattle.std.specs.Prelude.{◌≡◌, ℕ, ◌<◌, List, ◌∷◌, ◌++◌, None, MatchOption, slice_index};
+ghost use Rattle.std.specs.Prelude.{◌≡◌, ℕ, ◌<◌, List, ◌∷◌, ◌++◌, MatchOption, slice_index};
 ghost use Rattle.std.specs.Option.{option_map};
 ghost use Rattle.recency.specs.Lists.{foremost, rearmost};
 ghost use Rattle.slabs.specs.Rows.{rests};
 ghost use Rattle.slabs.specs.Lists.{free_of, granted_of, held_of, list_of, to_front};
 ghost use Rattle.slabs.specs.Layouts.{class_at};
-ghost use Rattle.slabs.specs.Slabs.{rows_of, homes_of, layout, Lists, Sound, Shifted, Reordered, Taken, Holds, Granted, IfHeld, Tells};
+ghost use Rattle.slabs.specs.Slabs.{rows_of, homes_of, layout, Lists, Sound, Shifted, Reordered, Taken, Holds, Granted, Tells};
 
 use super::{CLASSES, ROWS_PER_PAGE, Slab};
 use crate::class::Stand;
@@ -43,33 +43,27 @@ impl Slab {
         self.shift(class, Stand::Granted, Stand::Free, row);
     }
 
-    /// Removes a record: its chunk is free. False, and nothing done, where the row holds none.
-    pub fn remove(&mut self, i: u32) -> bool
-        requires { ∥ Sound self.old ∥₁ }
+    /// Removes a record: its chunk is free.
+    pub fn remove(&mut self, i: u32)
+        requires sound { ∥ Sound self.old ∥₁ }
+        requires held { Holds self.old i }
         ensures sound { ∥ Sound self.new ∥₁ }
-        ensures removed { IfHeld self.old i result (Shifted self.old self.new i (held_of (class_at (layout self.old) i)) (free_of (class_at (layout self.old) i))) (self.new ≡ self.old) }
+        ensures removed { Shifted self.old self.new i (held_of (class_at (layout self.old) i)) (free_of (class_at (layout self.old) i)) }
         ensures rests { rests (rows_of self.new) ≡ rests (rows_of self.old) }
     {
-        if !self.holds(i) {
-            return false;
-        }
         let class = self.class_of(i);
         self.shift(class, Stand::Held, Stand::Free, i);
-        true
     }
 
-    /// Moves a record to the front of its class. False, and nothing done, where the row holds none.
-    pub fn move_to_front(&mut self, i: u32) -> bool
-        requires { ∥ Sound self.old ∥₁ }
+    /// Moves a record to the front of its class.
+    pub fn move_to_front(&mut self, i: u32)
+        requires sound { ∥ Sound self.old ∥₁ }
+        requires held { Holds self.old i }
         ensures sound { ∥ Sound self.new ∥₁ }
-        ensures moved { IfHeld self.old i result (Reordered self.old self.new (to_front i (held_of (class_at (layout self.old) i)))) (self.new ≡ self.old) }
+        ensures moved { Reordered self.old self.new (to_front i (held_of (class_at (layout self.old) i))) }
     {
-        if !self.holds(i) {
-            return false;
-        }
         let class = self.class_of(i);
         self.refresh(class, Stand::Held, i);
-        true
     }
 
     /// The record at the back of a class, if it has one.
@@ -94,18 +88,13 @@ impl Slab {
         self.classes[class].first(Stand::Held)
     }
 
-    /// The record ahead of one in its class, towards the front: a walk from the back goes on here. None where the row
-    /// holds no record.
+    /// The record ahead of one in its class, towards the front: a walk from the back goes on here.
     pub fn ahead_of(&self, i: u32) -> Option<u32>
-        requires { ∥ Sound self.now ∥₁ }
-        ensures ahead { Holds self.now i → (ls : ℕ → List ℕ) → Lists self.now ls → (a b : List ℕ) → ls (held_of (class_at (layout self.now) i)) ≡ a ++ i ∷ b → result ≡ rearmost a }
-        ensures none { (Holds self.now i → ⊥) → result ≡ None }
+        requires sound { ∥ Sound self.now ∥₁ }
+        requires held { Holds self.now i }
+        ensures { (ls : ℕ → List ℕ) → Lists self.now ls → (a b : List ℕ) → ls (held_of (class_at (layout self.now) i)) ≡ a ++ i ∷ b → result ≡ rearmost a }
     {
-        if self.holds(i) {
-            recency::ahead_of(&self.rows, i)
-        } else {
-            None
-        }
+        recency::ahead_of(&self.rows, i)
     }
 
     /// The class of a record, if the row holds one.

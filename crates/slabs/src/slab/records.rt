@@ -1,12 +1,13 @@
 //! Records: their bytes in page memory, and what their rows tell of them.
 
-ghost use Rattle.std.specs.Prelude.{◌≡◌, ℕ, ◌+◌, ◌<◌, ◌≤◌, List, map, length, Decides, MatchResult, slice_index, slice_index_or};
+ghost use Rattle.std.specs.Prelude.{◌≡◌, ℕ, ◌+◌, ◌*◌, ◌<◌, ◌≤◌, List, map, length, Decides, ◌≢◌, slice_index, slice_index_or};
 ghost use Rattle.slabs.specs.Rows.{homes};
-ghost use Rattle.slabs.specs.Layouts.{start};
-ghost use Rattle.slabs.specs.Slabs.{rows_of, homes_of, layout, Lists, Sound, Holds, Granted, IfHeld, Tells};
-ghost use Rattle.slabs.specs.Records.{Described, Written, Retagged, FitsGrant, Filled, bytes_at, key_of, data_of, key_lens, data_lens, tags};
+ghost use Rattle.slabs.specs.Lists.{granted_of, held_of};
+ghost use Rattle.slabs.specs.Layouts.{start, Chunk};
+ghost use Rattle.slabs.specs.Slabs.{rows_of, homes_of, layout, Lists, Sound, Shifted, Holds, Granted};
+ghost use Rattle.slabs.specs.Records.{Described, Written, Retagged, chunk_of, key_of, data_of, key_lens, data_lens, tags};
 
-use super::{CLASSES, MOST_PAGES, PAGE, ROWS_PER_PAGE, Slab};
+use super::{CLASSES, PAGE, ROWS_PER_PAGE, Slab};
 use crate::class::{Stand, number};
 use crate::grant::Grant;
 use crate::row::{Row, Tag};
@@ -20,15 +21,6 @@ fn write_record(memory: &mut [u8], at: usize, key: &[u8], block: &[u8])
     let end = middle + block.len();
     memory[at..middle].copy_from_slice(key);
     memory[middle..end].copy_from_slice(block);
-}
-
-// Bytes from a place on, as far as there are any.
-fn cut(bytes: &[u8], from: usize, len: u32) -> &[u8]
-    ensures { result.now ≡ bytes_at bytes.now from len }
-{
-    let at = from.min(bytes.len());
-    let end = (at + len as usize).min(bytes.len());
-    &bytes[at..end]
 }
 
 // Has a row tell of a record.
@@ -61,7 +53,7 @@ impl Slab {
     }
 
     // Where the chunk of a row that is in a list begins.
-    fn start(&self, i: u32) -> usize
+    pub(super) fn start(&self, i: u32) -> usize
         requires sound { ∥ Sound self.now ∥₁ }
         requires listed { 0 < slice_index (homes_of self.now) i }
         ensures { result ≡ start (layout self.now) i }
@@ -72,14 +64,28 @@ impl Slab {
         page * PAGE + place * self.classes[class].size as usize
     }
 
-    // Fills a granted chunk with a key and its data that fit it: it becomes the front record of its class.
-    fn fill(&mut self, grant: Grant, memory: &mut [u8], key: &[u8], block: &[u8], tag: Tag) -> u32
+    /// Fills a granted chunk with a key and its data: it becomes the front record of its class. Gives its row.
+    pub fn link(
+        &mut self,
+        grant: Grant,
+        memory: &mut [u8],
+        key: &[u8],
+        block: &[u8],
+        tag: Tag,
+    ) -> u32
         requires sound { ∥ Sound self.old ∥₁ }
         requires granted { Granted self.old grant }
-        requires fit { FitsGrant self.old memory.old key.now block.now grant }
+        requires fits { length key.now + length block.now ≤ slice_index (layout self.old).sizes grant.class }
+        requires memory { 4096 * self.old.pages ≤ length memory.old }
         ensures sound { ∥ Sound self.new ∥₁ }
         ensures row { result ≡ grant.row }
-        ensures filled { Filled self.old self.new memory.old memory.new key.now block.now grant tag }
+        ensures held { Holds self.new result }
+        ensures linked { Shifted self.old self.new grant.row (granted_of grant.class) (held_of grant.class) }
+        ensures described { Described (rows_of self.old) (rows_of self.new) grant.row (length key.now) (length block.now) tag }
+        ensures written { Written memory.old memory.new (start (layout self.old) grant.row) key.now block.now }
+        ensures told { (key_of self.new memory.new grant.row ≡ key.now) × (data_of self.new memory.new grant.row ≡ block.now) }
+        ensures chunks { (j : ℕ) → Chunk (layout self.old) j → (j ≢ grant.row) → chunk_of self.old memory.new j ≡ chunk_of self.old memory.old j }
+        ensures others { (j : ℕ) → Holds self.old j → (key_of self.new memory.new j ≡ key_of self.old memory.old j) × (data_of self.new memory.new j ≡ data_of self.old memory.old j) }
     {
         let Grant { row, class } = grant;
         let at = self.start(row);
@@ -89,33 +95,8 @@ impl Slab {
         row
     }
 
-    /// Fills a granted chunk with a key and its data: it becomes the front record of its class. Gives its row, or the
-    /// grant again where key and data do not fit the chunk or page memory is too short.
-    pub fn link(
-        &mut self,
-        grant: Grant,
-        memory: &mut [u8],
-        key: &[u8],
-        block: &[u8],
-        tag: Tag,
-    ) -> Result<u32, Grant>
-        requires sound { ∥ Sound self.old ∥₁ }
-        requires granted { Granted self.old grant }
-        ensures sound { ∥ Sound self.new ∥₁ }
-        ensures linked { MatchResult result (λ row. (row ≡ grant.row) × FitsGrant self.old memory.old key.now block.now grant × Filled self.old self.new memory.old memory.new key.now block.now grant tag) (λ back. (back ≡ grant) × (FitsGrant self.old memory.old key.now block.now grant → ⊥) × (self.new ≡ self.old) × (memory.new ≡ memory.old)) }
-    {
-        let room = self.size(grant.class) as usize;
-        if key.len() > room
-            || block.len() > room - key.len()
-            || memory.len() < PAGE * self.pages as usize
-        {
-            return Err(grant);
-        }
-        Ok(self.fill(grant, memory, key, block, tag))
-    }
-
     // The row of a record.
-    fn row(&self, i: u32) -> Row
+    pub(super) fn row(&self, i: u32) -> Row
         requires sound { ∥ Sound self.now ∥₁ }
         requires held { Holds self.now i }
         ensures key { result.key_len ≡ slice_index (key_lens (rows_of self.now)) i }
@@ -149,78 +130,49 @@ impl Slab {
         }
     }
 
-    // The class that a page was given to, 0 for none.
-    fn owner_of(&self, page: usize) -> usize
-        requires { ∥ Sound self.now ∥₁ }
-        ensures { result ≡ slice_index self.now.owners page }
+    /// The key of a record, where it lies in page memory.
+    pub fn key_of<'a>(&self, memory: &'a [u8], i: u32) -> &'a [u8]
+        requires sound { ∥ Sound self.now ∥₁ }
+        requires held { Holds self.now i }
+        requires memory { 4096 * self.now.pages ≤ length memory.now }
+        ensures { result.now ≡ key_of self.now memory.now i }
     {
-        if page < MOST_PAGES {
-            self.owners[page] as usize
-        } else {
-            0
-        }
+        let row = self.row(i);
+        let at = self.start(i);
+        let end = at + row.key_len as usize;
+        &memory[at..end]
     }
 
-    /// Some bytes from where the chunk of a row begins, as far as page memory has them: whoever looks for a key reads
-    /// here, with no need to know that the row holds a record.
-    pub fn bytes_of<'a>(&self, memory: &'a [u8], i: u32, len: u32) -> &'a [u8]
-        requires { ∥ Sound self.now ∥₁ }
-        ensures { result.now ≡ bytes_at memory.now (start (layout self.now) i) len }
+    /// The data of a record, where it lies in page memory.
+    pub fn data_of<'a>(&self, memory: &'a [u8], i: u32) -> &'a [u8]
+        requires sound { ∥ Sound self.now ∥₁ }
+        requires held { Holds self.now i }
+        requires memory { 4096 * self.now.pages ≤ length memory.now }
+        ensures { result.now ≡ data_of self.now memory.now i }
     {
-        let page = i as usize / ROWS_PER_PAGE;
-        let place = i as usize % ROWS_PER_PAGE;
-        let size = self.size(self.owner_of(page)) as usize;
-        let start = page * PAGE + place * size;
-        cut(memory, start, len)
-    }
-
-    /// The key of a record, where it lies in page memory. None where the row holds no record.
-    pub fn key_of<'a>(&self, memory: &'a [u8], i: u32) -> Option<&'a [u8]>
-        requires { ∥ Sound self.now ∥₁ }
-        ensures { Tells self.now i result (λ key. key.now ≡ key_of self.now memory.now i) }
-    {
-        if !self.holds(i) {
-            return None;
-        }
-        let len = self.row(i).key_len;
-        Some(self.bytes_of(memory, i, len))
-    }
-
-    /// The data of a record, where they lie in page memory. None where the row holds no record.
-    pub fn data_of<'a>(&self, memory: &'a [u8], i: u32) -> Option<&'a [u8]>
-        requires { ∥ Sound self.now ∥₁ }
-        ensures { Tells self.now i result (λ block. block.now ≡ data_of self.now memory.now i) }
-    {
-        if !self.holds(i) {
-            return None;
-        }
         let row = self.row(i);
         let at = self.start(i) + row.key_len as usize;
-        Some(cut(memory, at, row.data_len))
+        let end = at + row.data_len as usize;
+        &memory[at..end]
     }
 
-    /// What is told of a record beside its key and data. None where the row holds no record.
-    pub fn tag(&self, i: u32) -> Option<Tag>
-        requires { ∥ Sound self.now ∥₁ }
-        ensures { Tells self.now i result (λ tag. (d : Tag) → tag ≡ slice_index_or (tags (rows_of self.now)) i d) }
+    /// What is told of a record beside its key and data.
+    pub fn tag(&self, i: u32) -> Tag
+        requires sound { ∥ Sound self.now ∥₁ }
+        requires held { Holds self.now i }
+        ensures { (d : Tag) → result ≡ slice_index_or (tags (rows_of self.now)) i d }
     {
-        if !self.holds(i) {
-            return None;
-        }
-        Some(self.row(i).tag)
+        self.row(i).tag
     }
 
-    /// Tells something else of a record. False, and nothing done, where the row holds none.
-    pub fn set_tag(&mut self, i: u32, tag: Tag) -> bool
-        requires { ∥ Sound self.old ∥₁ }
+    /// Tells something else of a record.
+    pub fn set_tag(&mut self, i: u32, tag: Tag)
+        requires sound { ∥ Sound self.old ∥₁ }
+        requires held { Holds self.old i }
         ensures sound { ∥ Sound self.new ∥₁ }
-        ensures retagged { IfHeld self.old i result (Retagged self.old self.new i tag) (self.new ≡ self.old) }
+        ensures retagged { Retagged self.old self.new i tag }
     {
-        if !self.holds(i) {
-            return false;
-        }
         let row = self.row(i);
         self.describe(i, row.key_len, row.data_len, tag);
-        true
     }
 }

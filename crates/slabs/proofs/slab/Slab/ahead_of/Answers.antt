@@ -1,5 +1,4 @@
-use Rattle.std.proofs.Common.{◌≡◌, List, ◌∷◌, ◌++◌, length, vec_items, sym, refl, ap, ◌∙◌, subst, arith}
-use Rattle.std.proofs.lemmas.Bool.{true≢false}
+use Rattle.std.proofs.Common.{◌≡◌, List, ◌∷◌, ◌++◌, length, vec_items, sym, ap, subst, arith}
 use Rattle.slabs.specs.declared.class.Stand.TheVariants.{Held}
 use Rattle.slabs.specs.Rows.{RowsRead}
 use Rattle.slabs.specs.Classes.{list_at}
@@ -12,20 +11,14 @@ use Rattle.slabs.proofs.slab.Slab.ahead_of.Goals as goal
 pub ahead_of-requires : goal.ahead_of-requires
 ahead_of-requires c =
     let s = c.args.self.now in
-    omega (arith, ap length c.deref.ensures.value, row_within s c.requires c.args.i (class_at (layout s) c.args.i) Held (c.holds.ensures.0 c.if-holds.true))
+    omega (arith, ap length c.deref.ensures.value, row_within s c.requires.sound c.args.i (class_at (layout s) c.args.i) Held c.requires.held)
 
-pub returns-then-holds : goal.returns-then-holds
-returns-then-holds c = record {
-  ahead = λ held ls f a b e.
-      let s = c.args.self.now in
-      let i = c.args.i in
-      let class = class_at (layout s) i in
-      let list = list_at s.classes class Held in
-      c.ahead_of.ensures list a b
-      (subst (λ rows. RowsRead list rows (a ++ i ∷ b)) (sym c.deref.ensures.value)
-      (subst (λ ids. RowsRead list (rows_of s) ids) e (f.reads class Held (class_few s c.requires i class Held held))));
-  none = λ no. absurd (no (c.holds.ensures.0 c.if-holds.true));
-}
-
-pub returns-else-holds : goal.returns-else-holds
-returns-else-holds c = record { ahead = λ held. absurd (true≢false (sym (c.holds.ensures.1 held) ∙ c.if-holds.false)); none = λ _. refl }
+pub returns : goal.returns
+returns c = λ ls f a b e.
+    let s = c.args.self.now in
+    let i = c.args.i in
+    let class = class_at (layout s) i in
+    let list = list_at s.classes class Held in
+    c.ahead_of.ensures list a b
+    (subst (λ rows. RowsRead list rows (a ++ i ∷ b)) (sym c.deref.ensures.value)
+    (subst (λ ids. RowsRead list (rows_of s) ids) e (f.reads class Held (class_few s c.requires.sound i class Held c.requires.held))))

@@ -1,6 +1,5 @@
 use Rattle.std.proofs.Common.{◌≡◌, sym, refl, ap, ◌∙◌, subst, arith}
 use mathlib.Core.Logic.{∥∥₁_map}
-use Rattle.std.proofs.lemmas.Bool.{true≢false}
 use Rattle.slabs.specs.declared.class.Stand.TheVariants.{Held}
 use Rattle.slabs.specs.Layouts.{class_at}
 use Rattle.slabs.specs.Lists.{held_of, to_front}
@@ -11,11 +10,11 @@ use Rattle.slabs.proofs.slab.Slab.move_to_front.Goals as goal
 pub refresh-requires : goal.refresh-requires
 refresh-requires c =
     let s = c.args.self.now in
-    let home = c.holds.ensures.0 c.if-not-holds.false ∙ ap held_of (sym c.class_of-class.ensures.value) in
+    let home = c.requires.held ∙ ap held_of (sym c.class_of-class.ensures.value) in
     record {
-      class = class_few s c.requires c.args.i c.class_of-class.result Held home;
-      within = row_within s c.requires c.args.i c.class_of-class.result Held home;
-      lists = some_lists s c.requires;
+      class = class_few s c.requires.sound c.args.i c.class_of-class.result Held home;
+      within = row_within s c.requires.sound c.args.i c.class_of-class.result Held home;
+      lists = some_lists s c.requires.sound;
       home = home;
     }
 
@@ -29,9 +28,6 @@ returns c =
     subst (λ k. Reordered s t (to_front i (held_of k))) c.class_of-class.ensures.value
     (record { lists = told.lists; homes = told.homes; rests = told.rests; layout = told.layout }) in
     record {
-      sound = ∥∥₁_map c.requires (sound_front s t i (held_of (class_at (layout s) i)) (omega arith) (c.holds.ensures.0 c.if-not-holds.false) moved);
-      moved = record { yes = λ _. (refl, moved); no = λ no. absurd (no (c.holds.ensures.0 c.if-not-holds.false)) };
+      sound = ∥∥₁_map c.requires.sound (sound_front s t i (held_of (class_at (layout s) i)) (omega arith) c.requires.held moved);
+      moved = moved;
     }
-
-pub returns-then-not-holds : goal.returns-then-not-holds
-returns-then-not-holds c = record { sound = c.requires; moved = record { yes = λ h. absurd (true≢false (sym (c.holds.ensures.1 h) ∙ c.if-not-holds.true)); no = λ _. (refl, refl) } }

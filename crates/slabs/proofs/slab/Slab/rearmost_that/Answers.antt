@@ -31,6 +31,15 @@ returns-then-picks g c = λ ls f.
     let pass : test i ≡ true = ap picked (get_or_default (rows_of s) i blank row (listed_within s c.requires i (omega arith)) ∙ sym c.index.ensures) ∙ sym c.picks.ensures ∙ c.if-picks.true in
     walk_finds test (ls (held_of class)) n i pass (w ls f)
 
+pub ahead_of-at-requires : goal.ahead_of-at-requires
+ahead_of-at-requires g c =
+    let s = c.args.self.now in
+    let i = c.in-Some.i in
+    let class = c.args.class in
+    let n = c.loop-walked.walked in
+    let test : ℕ → Bool = λ k. g.T.RowTest.picked c.args.test.now (get_or (rows_of s) k blank) in
+    record { sound = c.requires; held = walk_holds s c.requires class i n test (λ ls f. subst (λ a. Walked test (ls (held_of class)) n a) c.in-Some.is (c.loop-walked.invariant ls f)) }
+
 pub loop-walked-preserved : goal.loop-walked-preserved
 loop-walked-preserved g c = λ ls f.
     let s = c.args.self.now in
@@ -45,7 +54,7 @@ loop-walked-preserved g c = λ ls f.
     let fail : test i ≡ false = ap picked (get_or_default (rows_of s) i blank row (listed_within s c.requires i (omega arith)) ∙ sym c.index.ensures) ∙ sym c.picks.ensures ∙ c.if-picks.false in
     let there = ap (λ k. ls (held_of k)) (walk_class s c.requires class i n test w) in
     walk_goes test (ls (held_of class)) n i c.ahead_of-at.result fail (w ls f)
-    (c.ahead_of-at.ensures.ahead held ls f (rear_parts (w ls f).ahead i (w ls f).at_is).0 (w ls f).behind (there ∙ walk_parts test (ls (held_of class)) n i (w ls f)))
+    (c.ahead_of-at.ensures ls f (rear_parts (w ls f).ahead i (w ls f).at_is).0 (w ls f).behind (there ∙ walk_parts test (ls (held_of class)) n i (w ls f)))
 
 pub returns : goal.returns
 returns g c = λ ls f.

@@ -1,6 +1,5 @@
 use Rattle.std.proofs.Common.{◌≡◌, length, get_or, set, sym, refl, ap, ◌∙◌, arith}
 use mathlib.Core.Logic.{∥∥₁_map}
-use Rattle.std.proofs.lemmas.Bool.{true≢false}
 use Rattle.std.proofs.lemmas.List.{set-get_or}
 use Rattle.slabs.specs.Slabs.{rows_of}
 use Rattle.slabs.specs.Records.{key_lens, data_lens}
@@ -9,7 +8,7 @@ use Rattle.slabs.proofs.Telling.{span_sum, sound_same}
 use Rattle.slabs.proofs.slab.Slab.set_tag.Goals as goal
 
 pub describe-requires : goal.describe-requires
-describe-requires c = listed_within c.args.self.now c.requires c.args.i (omega (arith, c.holds.ensures.0 c.if-not-holds.false))
+describe-requires c = listed_within c.args.self.now c.requires.sound c.args.i (omega (arith, c.requires.held))
 
 pub returns : goal.returns
 returns c =
@@ -21,10 +20,8 @@ returns c =
     let keys = told.described.key_lens_are ∙ ap (λ n. set (key_lens (rows_of s)) i n) row.key ∙ set-get_or (key_lens (rows_of s)) i 0 in
     let blocks = told.described.data_lens_are ∙ ap (λ n. set (data_lens (rows_of s)) i n) row.block ∙ set-get_or (data_lens (rows_of s)) i 0 in
     record {
-      sound = ∥∥₁_map c.requires (sound_same s t told.lists told.homes told.layout (λ j. let a = span_sum (rows_of t) j in let b = span_sum (rows_of s) j in let k = ap (λ xs. get_or xs j 0) keys in let d = ap (λ xs. get_or xs j 0) blocks in omega arith));
-      retagged = record {
-        yes = λ _. (
-          refl,
+      sound = ∥∥₁_map c.requires.sound (sound_same s t told.lists told.homes told.layout (λ j. let a = span_sum (rows_of t) j in let b = span_sum (rows_of s) j in let k = ap (λ xs. get_or xs j 0) keys in let d = ap (λ xs. get_or xs j 0) blocks in omega arith));
+      retagged =
           record {
             tags_are = told.described.tags_are;
             key_lens_stay = keys;
@@ -33,14 +30,5 @@ returns c =
             lists_stay = told.lists;
             homes_stay = told.homes;
             layout_stays = told.layout;
-          },
-        );
-        no = λ no. absurd (no (c.holds.ensures.0 c.if-not-holds.false));
-      };
+          };
     }
-
-pub row-row-requires : goal.row-row-requires
-row-row-requires c = record { sound = c.requires; held = c.holds.ensures.0 c.if-not-holds.false }
-
-pub returns-then-not-holds : goal.returns-then-not-holds
-returns-then-not-holds c = record { sound = c.requires; retagged = record { yes = λ h. absurd (true≢false (sym (c.holds.ensures.1 h) ∙ c.if-not-holds.true)); no = λ _. (refl, refl) } }

@@ -2,7 +2,7 @@ use Rattle.std.proofs.Common.{◌≡◌, ℕ, ◌+◌, ◌-◌, ◌<◌, ◌≤�
 use Rattle.std.proofs.lemmas.List.{take_all, drop_all}
 use Rattle.std.proofs.lemmas.Bool.{cases_lt}
 use Rattle.slabs.specs.Records.{bytes_at}
-use Rattle.slabs.proofs.slab.records.cut.Goals as goal
+use Rattle.slabs.proofs.slab.asking.cut.Goals as goal
 
 -- a part that is cut off at the end of what there is
 clamped : (bytes : List ℕ) (at from end n : ℕ) → at ≡ min from (length bytes) → end ≡ min (at + n) (length bytes) → take (end - at) (drop at bytes) ≡ bytes_at bytes from n

@@ -10,7 +10,7 @@ use Rattle.slabs.specs.Records.{Written, Described}
 use Rattle.slabs.proofs.Ends.{class_is, listed_within, page_within, chunk_inside, size_of_class, chunk_there, record_fits, lie_apart}
 use Rattle.slabs.proofs.Bytes.{chunk_kept}
 use Rattle.slabs.proofs.Telling.{span_sum, key_len_there, data_len_there, sound_described, described_rests, record_kept, record_there}
-use Rattle.slabs.proofs.slab.Slab.fill.Goals as goal
+use Rattle.slabs.proofs.slab.Slab.link.Goals as goal
 
 pub write_record-requires : goal.write_record-requires
 write_record-requires c =
@@ -20,7 +20,7 @@ write_record-requires c =
     let inside = chunk_inside s c.requires.sound i some in
     let page = page_within s c.requires.sound i some in
     let size = size_of_class s c.requires.sound i c.args.grant.class Granted c.requires.granted in
-    omega (arith, c.requires.fit.fits, c.requires.fit.wide, c.start-at.ensures)
+    omega (arith, c.requires.fits, c.requires.memory, c.start-at.ensures)
 
 pub overflow_cast-key : goal.overflow_cast-key
 overflow_cast-key c =
@@ -28,7 +28,7 @@ overflow_cast-key c =
     let i = c.args.grant.row in
     let inside = chunk_inside s c.requires.sound i (omega (arith, c.requires.granted)) in
     let size = size_of_class s c.requires.sound i c.args.grant.class Granted c.requires.granted in
-    omega (arith, c.requires.fit.fits)
+    omega (arith, c.requires.fits)
 
 pub overflow_cast-block : goal.overflow_cast-block
 overflow_cast-block c =
@@ -36,7 +36,7 @@ overflow_cast-block c =
     let i = c.args.grant.row in
     let inside = chunk_inside s c.requires.sound i (omega (arith, c.requires.granted)) in
     let size = size_of_class s c.requires.sound i c.args.grant.class Granted c.requires.granted in
-    omega (arith, c.requires.fit.fits)
+    omega (arith, c.requires.fits)
 
 pub describe-requires : goal.describe-requires
 describe-requires c = listed_within c.args.self.now c.requires.sound c.args.grant.row (omega (arith, c.requires.granted))
@@ -59,7 +59,7 @@ shift-requires c =
           let b = key_len_there (rows_of s) (rows_of m) i (length key) (length block) c.args.tag told.described within in
           let d = data_len_there (rows_of s) (rows_of m) i (length key) (length block) c.args.tag told.described within in
           let e = ap (λ l. get_or l.sizes class 0) told.layout in
-          omega (arith, c.requires.fit.fits);
+          omega (arith, c.requires.fits);
     }
 
 pub returns : goal.returns
@@ -80,30 +80,27 @@ returns c =
     let described = described_rests (rows_of s) (rows_of m) (rows_of t) i (length key) (length block) c.args.tag moved.rests told.described in
     let written : Written memory memory' (start (layout s) i) key block = subst (λ at. Written memory memory' at key block) c.start-at.ensures c.write_record.ensures in
     let chunk = chunk_there s c.requires.sound i class Granted c.requires.granted in
-    let fits : length key + length block ≤ size_at (layout s) i = omega (arith, c.requires.fit.fits, size_of_class s c.requires.sound i class Granted c.requires.granted) in
+    let fits : length key + length block ≤ size_at (layout s) i = omega (arith, c.requires.fits, size_of_class s c.requires.sound i class Granted c.requires.granted) in
     record {
       sound = moved.sound;
       row = refl;
-      filled =
+      held =
+          ap (λ hs. get_or hs i 0) (moved.shifted.homes ∙ ap (λ hs. set hs i (held_of class)) told.homes)
+          ∙ get_or-set_same (homes_of s) i (held_of class) 0 (omega (arith, length-map (rows_of s) (λ r. r.home)))
+          ∙ ap held_of (sym (ap (λ l. class_at l i) same ∙ class_is s c.requires.sound i class Granted c.requires.granted));
+      linked =
           record {
-            held =
-                ap (λ hs. get_or hs i 0) (moved.shifted.homes ∙ ap (λ hs. set hs i (held_of class)) told.homes)
-                ∙ get_or-set_same (homes_of s) i (held_of class) 0 (omega (arith, length-map (rows_of s) (λ r. r.home)))
-                ∙ ap held_of (sym (ap (λ l. class_at l i) same ∙ class_is s c.requires.sound i class Granted c.requires.granted));
-            linked =
-                record {
-                  lists = λ ls f. moved.shifted.lists ls (told.lists ls f);
-                  homes = moved.shifted.homes ∙ ap (λ hs. set hs i (held_of class)) told.homes;
-                  layout = same;
-                };
-            described = described;
-            written = written;
-            told = record_there s t i c.args.tag memory memory' key block within same described written;
-            chunks = λ j cj ne. chunk_kept (layout s) memory memory' i j key block (lie_apart s c.requires.sound j i cj chunk ne) fits written;
-            others = λ j held.
-                let ne : j ≡ i → ⊥ = λ e. omega (arith, c.requires.granted, held, ap (λ x. get_or (homes_of s) x 0) e) in
-                let cj = chunk_there s c.requires.sound j _ Held held in
-                record_kept s t i (length key) (length block) c.args.tag memory memory' same described j ne (record_fits s c.requires.sound j held)
-                (chunk_kept (layout s) memory memory' i j key block (lie_apart s c.requires.sound j i cj chunk ne) fits written);
+            lists = λ ls f. moved.shifted.lists ls (told.lists ls f);
+            homes = moved.shifted.homes ∙ ap (λ hs. set hs i (held_of class)) told.homes;
+            layout = same;
           };
+      described = described;
+      written = written;
+      told = record_there s t i c.args.tag memory memory' key block within same described written;
+      chunks = λ j cj ne. chunk_kept (layout s) memory memory' i j key block (lie_apart s c.requires.sound j i cj chunk ne) fits written;
+      others = λ j held.
+          let ne : j ≡ i → ⊥ = λ e. omega (arith, c.requires.granted, held, ap (λ x. get_or (homes_of s) x 0) e) in
+          let cj = chunk_there s c.requires.sound j _ Held held in
+          record_kept s t i (length key) (length block) c.args.tag memory memory' same described j ne (record_fits s c.requires.sound j held)
+          (chunk_kept (layout s) memory memory' i j key block (lie_apart s c.requires.sound j i cj chunk ne) fits written);
     }
