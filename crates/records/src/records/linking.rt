@@ -29,10 +29,7 @@ impl Records {
         ensures spent { (class : ℕ) → GrantedTo self.new.slab grant.row class → ⊥ }
         ensures shown { (setup : Setup) (ks : List Class) → ShowsRecords setup self.old.slab memory.old ks → Numbered setup grant.class → tag.hash ≡ fnv key.now → class_no setup (brought key.now «data».now tag) ≡ grant.class → first (has_key key.now) (flat_map records_of ks) ≡ None → ShowsRecords setup self.new.slab memory.new (with_records grant.class (brought key.now «data».now tag ∷ (class_at grant.class ks).records) ks) }
     {
-        match self.slab.link(grant, memory, key, data, tag) {
-            Ok(row) => self.table.insert(&mut self.heads, &mut self.slab.rows, row),
-            // it fits, so that this does not happen
-            Err(grant) => self.slab.give_back(grant),
-        }
+        let row = self.slab.link(grant, memory, key, data, tag);
+        self.table.insert(&mut self.heads, &mut self.slab.rows, row);
     }
 }

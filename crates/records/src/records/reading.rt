@@ -26,7 +26,7 @@ impl Records {
         requires held { Holds self.now.slab i }
         ensures { result ≡ (slice_index_or (rows_of self.now.slab) i blank).tag }
     {
-        self.slab.tag(i).unwrap()
+        self.slab.tag(i)
     }
 
     /// The data of a record, where they lie in page memory.
@@ -36,7 +36,7 @@ impl Records {
         ensures data { result.now ≡ (record_at (layout self.now.slab) (rows_of self.now.slab) memory.now i).block }
         ensures short { (slice_index_or (rows_of self.now.slab) i blank).key_len + length result.now ≤ 4096 }
     {
-        self.slab.data_of(memory, i).unwrap()
+        self.slab.data_if_held(memory, i).unwrap()
     }
 
     /// The class of a record.

@@ -22,6 +22,7 @@ impl Records {
         requires hash { tag.hash ≡ slice_index (map (λ row. row.tag.hash) (rows_of self.old.slab)) i }
         ensures standing { ∥ Standing self.new ∥₁ }
         ensures retagged { Retagged self.old.slab self.new.slab i tag }
+        ensures table { self.new.table ≡ self.old.table }
         ensures kept { Kept self.old self.new }
     {
         self.slab.set_tag(i, tag);

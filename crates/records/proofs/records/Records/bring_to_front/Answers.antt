@@ -24,7 +24,12 @@ retag-requires c =
     }
 
 pub move_to_front-requires : goal.move_to_front-requires
-move_to_front-requires c = ∥∥₁_map c.retag.ensures.standing (λ s. s.sound)
+move_to_front-requires c =
+    let told = c.retag.ensures.retagged in
+    record {
+      sound = ∥∥₁_map c.retag.ensures.standing (λ s. s.sound);
+      held = ap (λ h. get_or h c.args.i 0) told.homes_stay ∙ c.requires.held ∙ ap (λ l. held_of (class_at l c.args.i)) (sym told.layout_stays);
+    }
 
 pub returns : goal.returns
 returns c =
@@ -33,8 +38,7 @@ returns c =
     let u = c.retag.new.self in
     let new = c.move_to_front.new.self in
     let told = c.retag.ensures.retagged in
-    let held : Holds u.slab i = ap (λ h. get_or h i 0) told.homes_stay ∙ c.requires.held ∙ ap (λ l. held_of (class_at l i)) (sym told.layout_stays) in
-    let went = (c.move_to_front.ensures.moved.yes held).1 in
+    let went = c.move_to_front.ensures.moved in
     let tag_is : c.tag-tag.result ≡ get_or (tags (rows_of s)) i blank.tag = c.tag-tag.ensures ∙ sym (at_column (λ row. row.tag) (rows_of s) i) in
     let retagged : Retagged s u.slab i (at_second c.args.second (get_or (tags (rows_of s)) i blank.tag)) =
     subst (λ x. Retagged s u.slab i (at_second c.args.second x)) tag_is told in

@@ -9,11 +9,11 @@ use Rattle.slabs.proofs.Ends.{record_fits, chunk_inside}
 use Rattle.records.proofs.Telling.{at_column}
 use Rattle.records.proofs.records.Records.data.Goals as goal
 
-pub data_of-requires : goal.data_of-requires
-data_of-requires c = ∥∥₁_map c.requires.standing (λ s. s.sound)
+pub data_if_held-requires : goal.data_if_held-requires
+data_if_held-requires c = ∥∥₁_map c.requires.standing (λ s. s.sound)
 
 pub unwrap-requires : goal.unwrap-requires
-unwrap-requires c = c.data_of.ensures.some c.requires.held
+unwrap-requires c = c.data_if_held.ensures.some c.requires.held
 
 pub returns : goal.returns
 returns c =
@@ -23,7 +23,7 @@ returns c =
     let row = get_or (rows_of s) i blank in
     let key = at_column (λ r. r.key_len) (rows_of s) i in
     let block = at_column (λ r. r.data_len) (rows_of s) i in
-    let is = c.data_of.ensures.is c.unwrap.result c.unwrap.ensures
+    let is = c.data_if_held.ensures.is c.unwrap.result c.unwrap.ensures
     ∙ ap (λ k. bytes_at memory (start (layout s) i + k) (get_or (data_lens (rows_of s)) i 0)) key
     ∙ ap (λ n. bytes_at memory (start (layout s) i + row.key_len) n) block in
     let sound = ∥∥₁_map c.requires.standing (λ st. st.sound) in

@@ -12,19 +12,18 @@ use Rattle.records.proofs.Chaining.{unchained, with_rows, sound_chained}
 use Rattle.records.proofs.Linking.{row_still, outside, still_kept, put_exact, put_granted, put_spent, put_shown}
 use Rattle.records.proofs.records.Records.put.Goals as goal
 
-pub link-requires : goal.link-requires
-link-requires c = record { sound = ∥∥₁_map c.requires.standing (λ s. s.sound); granted = c.requires.granted }
+pub link-row-requires : goal.link-row-requires
+link-row-requires c = record { sound = ∥∥₁_map c.requires.standing (λ s. s.sound); granted = c.requires.granted; fits = c.requires.fits; memory = c.requires.memory }
 
 pub insert-requires : goal.insert-requires
 insert-requires c =
     let t = c.args.self.now in
     let grant = c.args.grant in
-    let u = c.link.new.self in
-    let done = c.in-Ok.ensures.linked in
-    let made = done.2 in
-    let row_is = done.0 in
+    let u = c.link-row.new.self in
+    let made = c.link-row.ensures in
+    let row_is = made.row in
     let heads_are = c.deref_mut.ensures.value in
-    let rows_are = c.deref_mut-in-Ok.ensures.value in
+    let rows_are = c.deref_mut-2.ensures.value in
     record {
       within = omega (arith, row_is, ap length rows_are, row_still t c.requires.standing grant.row grant.class c.requires.granted u made.linked _ _ c.args.tag made.described);
       outside = ∥∥₁_map c.requires.standing (λ s. (
@@ -35,22 +34,21 @@ insert-requires c =
       ));
     }
 
-pub returns-in-Ok : goal.returns-in-Ok
-returns-in-Ok c =
+pub returns : goal.returns
+returns c =
     let t = c.args.self.now in
     let grant = c.args.grant in
-    let u = c.link.new.self in
-    let done = c.in-Ok.ensures.linked in
-    let made = done.2 in
-    let row_is = done.0 in
+    let u = c.link-row.new.self in
+    let made = c.link-row.ensures in
+    let row_is = made.row in
     let put = c.insert.ensures in
     let heads_are = c.deref_mut.ensures.value in
-    let rows_are = c.deref_mut-in-Ok.ensures.value in
+    let rows_are = c.deref_mut-2.ensures.value in
     let ws = c.insert.new.rows in
     let hs = c.insert.new.heads in
     let v = with_items u.rows ws in
     let new = with_rows u v in
-    let long : length ws ≡ u.rows.len = omega (arith, ap length put.rest, length-map ws unchained, length-map c.deref_mut-in-Ok.result.now unchained, c.deref_mut-in-Ok.ensures.len) in
+    let long : length ws ≡ u.rows.len = omega (arith, ap length put.rest, length-map ws unchained, length-map c.deref_mut-2.result.now unchained, c.deref_mut-2.ensures.len) in
     let out = with_items_is u.rows ws long in
     let stays : map unchained (vec_items v) ≡ map unchained (rows_of u) = ap (map unchained) out ∙ put.rest ∙ ap (map unchained) rows_are in
     let heads_long : length hs ≡ t.heads.len = omega (arith, c.insert.auto.heads, c.deref_mut.ensures.len) in
@@ -62,7 +60,7 @@ returns-in-Ok c =
     (still_kept t c.requires.standing grant.row grant.class c.requires.granted u made.linked _ _ c.args.tag made.described st.indexed))
     (ap (λ n. count n ids) (row_is) ∙ outside t c.requires.standing grant.row grant.class c.requires.granted u made.linked _ _ c.args.tag made.described st.indexed)) in
     record {
-      standing = ∥∥₁_elim c.in-Ok.ensures.sound ∥∥₁_prop (λ z. ∥∥₁_map c.requires.standing (λ st. record {
+      standing = ∥∥₁_elim made.sound ∥∥₁_prop (λ z. ∥∥₁_map c.requires.standing (λ st. record {
         sound = sound_chained u v stays z;
         indexed = record {
           ids = grant.row ∷ st.indexed.ids;
@@ -78,12 +76,5 @@ returns-in-Ok c =
       };
       spent = put_spent t c.requires.standing grant.row grant.class c.requires.granted u made.linked _ _ c.args.tag made.described v stays;
       shown = λ setup ks sh num hash home free.
-          put_shown t c.requires.standing grant.row grant.class c.requires.granted u made.linked _ _ c.args.tag made.described v stays setup c.args.memory.now c.link.new.memory ks sh num c.args.key.now c.args.data.now made.told.0 made.told.1 made.others home hash free;
+          put_shown t c.requires.standing grant.row grant.class c.requires.granted u made.linked _ _ c.args.tag made.described v stays setup c.args.memory.now c.link-row.new.memory ks sh num c.args.key.now c.args.data.now made.told.0 made.told.1 made.others home hash free;
     }
-
--- key and data fit, so that the grant is not given back
-pub give_back-requires : goal.give_back-requires
-give_back-requires c = absurd (c.in-Err.ensures.linked.1 (record { fits = c.requires.fits; wide = c.requires.memory }))
-
-pub returns-in-Err : goal.returns-in-Err
-returns-in-Err c = absurd (c.in-Err.ensures.linked.1 (record { fits = c.requires.fits; wide = c.requires.memory }))

@@ -9,13 +9,13 @@ use Rattle.records.proofs.Telling.{hashes_stay}
 use Rattle.records.proofs.records.Records.retag.Goals as goal
 
 pub set_tag-requires : goal.set_tag-requires
-set_tag-requires c = ∥∥₁_map c.requires.standing (λ s. s.sound)
+set_tag-requires c = record { sound = ∥∥₁_map c.requires.standing (λ s. s.sound); held = c.requires.held }
 
 pub returns : goal.returns
 returns c =
     let t = c.args.self.now in
     let new = c.set_tag.new.self in
-    let told = (c.set_tag.ensures.retagged.yes c.requires.held).1 in
+    let told = c.set_tag.ensures.retagged in
     let hashes = hashes_stay (rows_of t.slab) (rows_of new) c.args.i c.args.tag told.tags_are c.requires.hash in
     let indexed : Standing t → Indexed _ = λ s.
     let ids = s.indexed.ids in
@@ -31,5 +31,6 @@ returns c =
     record {
       standing = ∥∥₁_elim c.set_tag.ensures.sound ∥∥₁_prop (λ sound. ∥∥₁_map c.requires.standing (λ s. record { sound = sound; indexed = indexed s }));
       retagged = told;
+      table = refl;
       kept = record { layout = told.layout_stays; table = refl; slots = refl; granted = λ k class h. ap (λ x. get_or x k 0) (sym told.homes_stay) ∙ h };
     }

@@ -49,7 +49,10 @@ remove-requires-2 c =
     let long : length ws ≡ t.slab.rows.len = omega (arith, ap length took.rest, length-map ws unchained, length-map c.deref_mut-2.result.now unchained, c.deref_mut-2.ensures.len) in
     let out = with_items_is t.slab.rows ws long in
     let stays : map unchained (vec_items v) ≡ map unchained (rows_of t.slab) = ap (map unchained) out ∙ took.rest ∙ ap (map unchained) rows_are in
-    ∥∥₁_map c.requires.standing (λ s. sound_chained t.slab v stays s.sound)
+    record {
+      sound = ∥∥₁_map c.requires.standing (λ s. sound_chained t.slab v stays s.sound);
+      held = ap (λ h. get_or h c.args.i 0) (homes_same t.slab (with_rows t.slab v) stays refl) ∙ c.requires.held;
+    }
 
 -- the table's rows without one that became free
 exact_after : (homes homes' ids : List ℕ) (i c : ℕ) (owner : ℕ → ℕ) → owner i ≡ c → i < length homes → homes' ≡ set homes i (free_of c) → ((k : ℕ) → count k ids ≡ cond (eqb (get_or homes k 0) (held_of (owner k))) 1 0) → (k : ℕ) → count k (without i ids) ≡ cond (eqb (get_or homes' k 0) (held_of (owner k))) 1 0
@@ -83,7 +86,7 @@ returns c =
     let homes_are = homes_same t.slab mid stays refl in
     let lt : i < length (homes_of t.slab) = within (homes_of t.slab) i (rw c.requires.held (omega arith)) in
     let new = c.remove-2.new.self in
-    let removed = (gone.removed.yes (ap (λ h. get_or h i 0) homes_are ∙ c.requires.held)).1 in
+    let removed = gone.removed in
     let rests_are : rests (rows_of new) ≡ rests ws = gone.rests ∙ ap rests out in
     let chains : map (λ row. row.chain) (rows_of new) ≡ map (λ row. row.chain) ws = column_of_rest rest (λ row. row.chain) (λ _. refl) ws (rows_of new) rests_are in
     let hashes : map (λ row. row.tag.hash) (rows_of new) ≡ map (λ row. row.tag.hash) ws = column_of_rest rest (λ row. row.tag.hash) (λ _. refl) ws (rows_of new) rests_are in
