@@ -13,11 +13,11 @@ pub struct Asked {
 
 fn number(word: Option<String>) -> anyhow::Result<u64> {
     let Some(word) = word else {
-        return Err(USAGE.into());
+        return Err(anyhow::Error::msg(USAGE));
     };
     match word.as_str().parse::<u64>() {
         Ok(number) => Ok(number),
-        Err(_) => Err(USAGE.into()),
+        Err(_) => Err(anyhow::Error::msg(USAGE)),
     }
 }
 
@@ -28,7 +28,7 @@ pub fn read(rt: &HostRuntime) -> anyhow::Result<Asked> {
     let percent = number(words.next())?;
     let pages = number(words.next())?;
     if words.next().is_some() {
-        return Err(USAGE.into());
+        return Err(anyhow::Error::msg(USAGE));
     }
     Ok(Asked {
         first,

@@ -29,7 +29,8 @@ fn plan_of(asked: &Asked) -> Result<Plan, Refusal> {
 fn refused(rt: &HostRuntime, refusal: Refusal) -> anyhow::Result<anyhow::Error> {
     let number = refusal.number();
     let rule = rule(refusal);
-    Ok(format!(in rt.alloc(); "refused with number {number}: {rule}")?.into())
+    let message = format!(in rt.alloc(); "refused with number {number}: {rule}")?;
+    Ok(anyhow::Error::msg(message))
 }
 
 // Writes the tables, and reads the kinds of records on the way.
