@@ -7,10 +7,10 @@ use Rattle.replies_demo.proofs.counted.Goals as goal
 pub statistics-requires : goal.statistics-requires
 statistics-requires c =
     let fresh : Fresh c.new-writer.result = search rules in
-    room_reply (Statistics c.args.figures.now) c.requires.1 fresh
+    room_reply (Statistics c.args.figures.now) c.requires.fair fresh
 
 pub returns : goal.returns
 returns c =
-    let short = every_reply_fits (Statistics c.args.figures.now) c.requires.1 in
+    let short = every_reply_fits (Statistics c.args.figures.now) c.requires.fair in
     let whole = replied (Statistics c.args.figures.now) c.new-writer.ensures.empty c.statistics.ensures in
     record { within = omega (arith, short, whole.count, c.len.ensures); replied = search rules }

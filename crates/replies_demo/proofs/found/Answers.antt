@@ -49,9 +49,9 @@ value-requires c =
     let items = c.args.items.now in
     let i = c.loop-item.item-index in
     let fresh : Fresh c.new-writer.result = search rules in
-    let fair = c.requires.1.1 in
+    let fair = c.requires.fair.1 in
     room_value c.args.numbered (map shown_of (take i items)) (shown_of (get_or items i blank))
-    (omega (arith, c.requires.1.0, length-map items shown_of, front_few items i c.loop-item.auto.item-index-end))
+    (omega (arith, c.requires.fair.0, length-map items shown_of, front_few items i c.loop-item.auto.item-index-end))
     (front_fair items i fair) (item_fair items i c.loop-item-test.true fair) fresh c.loop-item.invariant
 
 pub end-requires : goal.end-requires
@@ -60,8 +60,8 @@ end-requires c =
     let i = c.loop-item.item-index in
     let fresh : Fresh c.new-writer.result = search rules in
     room_end c.args.numbered (map shown_of (take i items))
-    (omega (arith, c.requires.1.0, length-map items shown_of, front_few items i c.loop-item.auto.item-index-end))
-    (front_fair items i c.requires.1.1) fresh c.loop-item.invariant
+    (omega (arith, c.requires.fair.0, length-map items shown_of, front_few items i c.loop-item.auto.item-index-end))
+    (front_fair items i c.requires.fair.1) fresh c.loop-item.invariant
 
 pub returns : goal.returns
 returns c =
@@ -70,5 +70,5 @@ returns c =
     let W : List Shown → Type 0 = λ xs. Wrote (flat_map (value_lines c.args.numbered) xs) c.new-writer.result c.loop-item.writer in
     let all : W (map shown_of items) = subst W (ap (map shown_of) (take_all i items c.loop-item-test.false)) c.loop-item.invariant in
     let whole = replied (Values c.args.numbered (map shown_of items)) c.new-writer.ensures.empty (values_all c.args.numbered (map shown_of items) all c.end.ensures.wrote) in
-    let short = every_reply_fits (Values c.args.numbered (map shown_of items)) c.requires.1 in
+    let short = every_reply_fits (Values c.args.numbered (map shown_of items)) c.requires.fair in
     record { within = omega (arith, short, whole.count, c.len.ensures); replied = search rules }

@@ -19,13 +19,13 @@ invariant_of-self c =
     let fits = c.in-Some.ensures.smallest in
     let f = fair c.args.self.now.plan c.in-Some.class fits.numbered.0 fits.numbered.1 in
     let small = product c.need-bytes.result c.args.kind.count (omega arith) in
-    let sum = c.in-Some-checked_add.ensures.1 in (
-      λ i few.
+    let sum = c.in-Some-checked_add.ensures.1 in
+    record {
+      paged = λ i few.
           let kept =
           paged (c.need-bytes.result * c.args.kind.count) c.args.kind.count (c.in-Some.class - 1) c.args.self.now.filled c.args.self.now.records (omega arith) (omega arith) small c.args.self.now.paged i few in
-          rw sum kept,
-      tt,
-    )
+          rw sum kept;
+    }
 
 pub returns : goal.returns
 returns c =
