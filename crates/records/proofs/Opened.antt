@@ -66,7 +66,6 @@ module _ (the_plan : Plan) (rows : ℕ) (s : Slab) (sound : ∥ Sound s ∥₁) 
         record {
           sizes = λ class num. opened.class_sizes class ∙ there class num _ 0 ∙ ap (λ xs. plan.size_at xs class) (sym same);
           chunks = λ class num. opened.class_chunks class ∙ there class num _ 0 ∙ ap (λ xs. plan.chunks_of (plan.size_at xs class)) (sym same);
-          some = λ class num. let e = opened.class_chunks class ∙ there class num _ 0 in let f = (fair the_plan class num.low (let e = ap length same in let h = num.high in omega arith)).some in omega arith;
           only = λ class some.
               ⊎_elim
               (λ yes.

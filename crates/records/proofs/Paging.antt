@@ -27,7 +27,7 @@ use Rattle.records.specs.declared.records.Records.{Records}
 use Rattle.records.specs.Standing.{Standing}
 use Rattle.records.specs.Kept.{GrantedTo}
 use Rattle.records.specs.Reading.{record_of, record_at, shown_class, ShowsClasses}
-use Rattle.records.specs.Showing.{Cut, ShowsRecords}
+use Rattle.records.specs.Showing.{Cut, HasChunks, ShowsRecords}
 use Rattle.records.proofs.Indexing.{with_slab, reindexed_by}
 use Rattle.records.proofs.Leaving.{names_on}
 use Rattle.records.proofs.Maps.{map_same}
@@ -143,7 +143,7 @@ module _ (t : Records) (standing : ∥ Standing t ∥₁) (new : Slab) (class : 
     page_shown =
         record {
           kept = sound_page setup ks sh.kept class num;
-          cut = subst (λ l. Cut setup l) (sym given.layout) (record { sizes = sh.cut.sizes; chunks = sh.cut.chunks; some = sh.cut.some; only = sh.cut.only });
+          cut = subst (λ l. Cut setup l) (sym given.layout) (record { sizes = sh.cut.sizes; chunks = sh.cut.chunks; only = sh.cut.only });
           classed = λ k h. subst (Numbered setup) (sym (class_other k (other_page k (rw (page_before k h) (omega arith))))) (sh.classed k (page_before k h));
           lists = lists';
           listed = given.lists sh.lists sh.listed;
@@ -194,5 +194,5 @@ module _ (t : Records) (standing : ∥ Standing t ∥₁) (new : Slab) (class : 
   and_true false true e = refl
   and_true a false e = absurd (true≢false (sym e))
 
-  pub gave_answer : (r : Bool) → Answer r → (setup : Setup) (memory : List ℕ) (ks : List Class) → ShowsRecords setup t.slab memory ks → Numbered setup class → r ≡ ltb t.slab.given t.slab.pages
-  gave_answer r e setup memory ks sh num = e ∙ and_true (ltb t.slab.given t.slab.pages) _ (lt-ltb _ _ (sh.cut.some class num))
+  pub gave_answer : (r : Bool) → Answer r → (setup : Setup) (memory : List ℕ) (ks : List Class) → HasChunks setup → ShowsRecords setup t.slab memory ks → Numbered setup class → r ≡ ltb t.slab.given t.slab.pages
+  gave_answer r e setup memory ks has sh num = e ∙ and_true (ltb t.slab.given t.slab.pages) _ (lt-ltb _ _ (rw (sh.cut.chunks class num) (has class num)))

@@ -15,9 +15,11 @@ use Rattle.slabs.specs.declared.slab.Slab.{Slab}
 pub record Cut (setup : Setup) (l : Layout) : Type 0 where
   pub sizes : (class : ℕ) → Numbered setup class → slice_index l.sizes class ≡ plan.size_at setup.sizes class
   pub chunks : (class : ℕ) → Numbered setup class → slice_index l.chunks class ≡ plan.chunks_of (plan.size_at setup.sizes class)
-  -- a page has a chunk of each class
-  pub some : (class : ℕ) → Numbered setup class → 0 < slice_index l.chunks class
   pub only : (class : ℕ) → 0 < slice_index l.chunks class → Numbered setup class
+
+-- a page has a chunk of each class, as in every lawful plan
+abbrev pub HasChunks : Setup → Type 0
+HasChunks setup = (class : ℕ) → Numbered setup class → 0 < plan.chunks_of (plan.size_at setup.sizes class)
 
 -- these are the classes of the reference table that rows and page memory show, and each record's hash is that of its key
 pub record ShowsRecords (setup : Setup) (slab : Slab) (memory : List ℕ) (ks : List Class) : Type 0 where

@@ -6,3 +6,4 @@ pub mod Grants
 pub mod Links
 pub mod Flushed
 pub mod Opens
+pub mod Planned

@@ -6,7 +6,7 @@ ghost use Rattle.model.specs.Setup.{Setup, chunks};
 ghost use Rattle.model.specs.Sound.{Numbered};
 ghost use Rattle.model.specs.Store.{Class, class_at, with_page};
 ghost use Rattle.records.specs.Kept.{GrantedTo, NoGrant, OnlyGrant, Kept};
-ghost use Rattle.records.specs.Showing.{ShowsRecords};
+ghost use Rattle.records.specs.Showing.{HasChunks, ShowsRecords};
 ghost use Rattle.records.specs.Standing.{Standing};
 
 use super::Records;
@@ -32,7 +32,7 @@ impl Records {
     pub fn give_page(&mut self, class: usize) -> bool
         requires standing { ∥ Standing self.old ∥₁ }
         ensures standing { ∥ Standing self.new ∥₁ }
-        ensures answer { (setup : Setup) (memory : List ℕ) (ks : List Class) → ShowsRecords setup self.old.slab memory ks → Numbered setup class → result ≡ nat_lt self.old.slab.given self.old.slab.pages }
+        ensures answer { (setup : Setup) (memory : List ℕ) (ks : List Class) → HasChunks setup → ShowsRecords setup self.old.slab memory ks → Numbered setup class → result ≡ nat_lt self.old.slab.given self.old.slab.pages }
         ensures pages { (self.new.slab.pages ≡ self.old.slab.pages) × (self.new.slab.given ≡ (if result then self.old.slab.given + 1 else self.old.slab.given)) }
         ensures same { result ≡ false → self.new ≡ self.old }
         ensures table { self.new.table ≡ self.old.table }

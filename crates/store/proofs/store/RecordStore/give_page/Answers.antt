@@ -1,6 +1,7 @@
 use Rattle.std.proofs.Common.{refl}
 use Rattle.store.proofs.Shown.{standing, stands_on}
 use Rattle.store.proofs.Grants.{made_given}
+use Rattle.store.proofs.Planned.{has_chunks}
 use Rattle.store.proofs.store.RecordStore.give_page.Goals as goal
 
 pub give_page-requires : goal.give_page-requires
@@ -16,6 +17,6 @@ returns c =
       pages = done.pages.0;
       shown = λ setup n memory s sh num.
           made_given c.args.self.now _ s sh c.args.class num (record { plan = refl; cas = refl; counts = refl; soonest = refl }) c.give_page.result
-          (done.answer setup memory s.classes sh.records num) done.pages.0 done.pages.1 done.same done.table done.slots done.granted
+          (done.answer setup memory s.classes (has_chunks c.args.self.now.plan sh.sizes) sh.records num) done.pages.0 done.pages.1 done.same done.table done.slots done.granted
           (done.shown setup memory s.classes sh.records num);
     }

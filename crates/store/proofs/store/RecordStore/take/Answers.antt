@@ -23,7 +23,7 @@ pub take-requires : goal.take-requires
 take-requires c = record { standing = standing c.args.self.now }
 
 pub invariant_of-self : goal.invariant_of-self
-invariant_of-self c = (stands_on c.args.self.now c.take.ensures.standing, tt)
+invariant_of-self c = record { ok = stands_on c.args.self.now c.take.ensures.standing }
 
 -- a chunk of the class is large enough
 fitting : (r : Option Grant) (class goal : ℕ) (old new : Records) → layout new.slab ≡ layout old.slab → goal ≤ get_or (layout old.slab).sizes class 0 → MatchOption r (new ≡ old) (λ grant. (grant.class ≡ class) × Granted new.slab grant) → IfSome r (λ grant. (grant.class ≡ class) × Granted new.slab grant × (goal ≤ get_or (layout new.slab).sizes grant.class 0))
