@@ -15,7 +15,7 @@ use Rattle.std.proofs.lemmas.List.{drop_at, take_at}
 use Rattle.std.proofs.lemmas.Str.Parse.{IsNumeralModel, not_in_digits, numerals_by_fold, tells_all_ascii_digits}
 use Rattle.std.proofs.lemmas.Bool.{and_from, and_parts, cond-true, le-leb}
 use Rattle.std.proofs.lemmas.Bool.Decides.{nat_tests}
-use Rattle.std.specs.List.{AllByRecursion as All}
+use Rattle.std.specs.List.{AllByRecursion}
 use Rattle.std.specs.Str.{all_ascii_digits, bytes_eq}
 use Rattle.std.specs.Char.{is_ascii_digit}
 use Rattle.std.specs.Fmt.{signed_decimal}
@@ -56,21 +56,21 @@ signed_solid (negsuc n) h = let s = decimal_solid (suc n) (omega arith) in (omeg
 key_solid : (k : List ℕ) → good_key k ≡ true → Solid k
 key_solid k h = (grind (arith, nat_tests), grind (arith, nat_tests))
 
-keys_solid : (ks : List (List ℕ)) → good_keys ks ≡ true → All Solid ks
+keys_solid : (ks : List (List ℕ)) → good_keys ks ≡ true → AllByRecursion Solid ks
 keys_solid [] h = tt
 keys_solid (k ∷ ks) h = let p = and_parts (good_key k) (good_keys ks) h in (key_solid k p.0, keys_solid ks p.1)
 
-item_solid : (i : Item) (more : List (List ℕ)) → LawfulItem i → All Solid more → All Solid (item_tokens i more)
+item_solid : (i : Item) (more : List (List ℕ)) → LawfulItem i → AllByRecursion Solid more → AllByRecursion Solid (item_tokens i more)
 item_solid i more l m =
     (key_solid i.key l.key, (decimal_solid i.flags (omega (arith, l.flags)), (signed_solid i.exptime l.exptime, (decimal_solid (length i.block) (omega (arith, l.block)), m))))
 
-store_solid : (v : Verb) (i : Item) → LawfulVerb v → LawfulItem i → All Solid (store_tokens v i)
+store_solid : (v : Verb) (i : Item) → LawfulVerb v → LawfulItem i → AllByRecursion Solid (store_tokens v i)
 store_solid Set i v l = ((omega arith, refl), item_solid i [] l tt)
 store_solid Add i v l = ((omega arith, refl), item_solid i [] l tt)
 store_solid Replace i v l = ((omega arith, refl), item_solid i [] l tt)
 store_solid (Cas n) i v l = ((omega arith, refl), item_solid i (decimal n ∷ []) l (decimal_solid n v, tt))
 
-tokens_solid : (c : Command) → Lawful c → All Solid (line_tokens c)
+tokens_solid : (c : Command) → Lawful c → AllByRecursion Solid (line_tokens c)
 tokens_solid (Get false ks) l = ((omega arith, refl), keys_solid ks l.good)
 tokens_solid (Get true ks) l = ((omega arith, refl), keys_solid ks l.good)
 tokens_solid (Store v i) l = store_solid v i l.0 l.1

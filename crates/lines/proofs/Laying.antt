@@ -9,7 +9,7 @@ use Rattle.lines.specs.Tokens.{crlf, filled, first_crlf, later, line_end, onto, 
 use Rattle.std.proofs.lemmas.List.{drop_at, drop-drop, get_or-replicate, length-replicate, take_at}
 use Rattle.std.proofs.lemmas.Bool.{and_from, and_left, and_parts, cond-false}
 use Rattle.std.proofs.lemmas.Bool.Decides.{nat_tests}
-use Rattle.std.specs.List.{AllByRecursion as All}
+use Rattle.std.specs.List.{AllByRecursion}
 
 -- Some bytes, none of them a space or a control byte.
 abbrev pub Solid : List ℕ → Type 0
@@ -35,7 +35,7 @@ plain_spaces : (n : ℕ) → plain (replicate n 32) ≡ true
 plain_spaces zero = refl
 plain_spaces (suc n) = plain_spaces n
 
-pub plain_spaced : (extra : ℕ → ℕ) (ts : List (List ℕ)) → All Solid ts → plain (spaced extra ts) ≡ true
+pub plain_spaced : (extra : ℕ → ℕ) (ts : List (List ℕ)) → AllByRecursion Solid ts → plain (spaced extra ts) ≡ true
 plain_spaced extra [] h = plain_spaces (extra 0)
 plain_spaced extra (t ∷ []) h =
     plain_append (replicate (extra 0) 32) _ (plain_spaces (extra 0)) (plain_append t _ (plain_key t h.0.1) (plain_spaces (extra 1)))
@@ -62,7 +62,7 @@ pieces_run (b ∷ t) rest h =
 tokens_run : (t rest : List ℕ) → Solid t → (0 < length rest → get_or rest 0 0 ≡ 32) → tokens (t ++ rest) ≡ t ∷ tokens rest
 tokens_run t rest h space = ap filled (pieces_run t rest h.1) ∙ cut_here t rest h.0 space
 
-pub tokens_spaced : (extra : ℕ → ℕ) (ts : List (List ℕ)) → All Solid ts → tokens (spaced extra ts) ≡ ts
+pub tokens_spaced : (extra : ℕ → ℕ) (ts : List (List ℕ)) → AllByRecursion Solid ts → tokens (spaced extra ts) ≡ ts
 tokens_spaced extra [] h = tokens_spaces (extra 0)
 tokens_spaced extra (t ∷ []) h =
     tokens_lead (extra 0) (t ++ replicate (extra 1) 32)

@@ -1,4 +1,5 @@
 //! What an insertion and a lookup cost as the table grows: `linked_bench LOOKUPS SIZE..`, and `time` for the times.
+#![tactic(auto)]
 
 mod book_run;
 mod words;

@@ -1,4 +1,5 @@
 //! Thousands of entries and visitors come, are asked for, and go, and each answer is checked against a simple list.
+#![tactic(auto)]
 
 ghost use Rattle.std.specs.Prelude.{ℕ, ◌≤◌, List, length};
 ghost use Rattle.recency.specs.Numbers.{none};

@@ -1,12 +1,11 @@
 -- What a write of one row leaves of the columns of visitors.
-use Rattle.std.proofs.Common.{◌≡◌, ℕ, ◌<◌, false, List, map, length, get_or, set, sym, refl, ap, ◌∙◌, subst}
+use Rattle.std.proofs.Common.{◌≡◌, ℕ, ◌<◌, List, map, length, get_or, set, sym, refl, ap, ◌∙◌, subst}
 use lib.ListN.{length-map}
 use Rattle.recency.specs.Numbers.{count}
 use Rattle.recency.proofs.Columns.{column_of_rest, column_kept, column_set}
 use Rattle.chained.specs.Chains.{Keeps, Holds, size}
 use Rattle.chained.specs.declared.table.Chains.{Chains}
 use Rattle.linked_rows.specs.Lists.{Attended, present}
-use Rattle.linked_rows.specs.declared.guests.Guests.{Guests}
 use Rattle.linked_rows.specs.declared.visitor.Visitor.{Visitor}
 
 -- a visitor without its place in its chain

@@ -1,10 +1,10 @@
 -- What a write of one row leaves of the columns of entries.
-use Rattle.std.proofs.Common.{◌≡◌, ℕ, ◌<◌, false, cond, eqb, List, ◌∷◌, map, length, get_or, set, sym, refl, ap, ◌∙◌, subst, ⊎_elim, arith}
+use Rattle.std.proofs.Common.{◌≡◌, ℕ, ◌<◌, false, List, ◌∷◌, map, length, get_or, set, sym, refl, ap, ◌∙◌, subst, ⊎_elim, arith}
 use lib.ListN.{length-map}
-use Rattle.std.proofs.lemmas.List.{get_or-set_same, get_or-set_other, get_or_past}
+use Rattle.std.proofs.lemmas.List.{get_or-set_same, get_or-set_other}
 use Rattle.std.proofs.lemmas.Bool.{cases_eq}
 use Rattle.std.proofs.lemmas.Bool.Decides.{nat_tests}
-use Rattle.recency.specs.Numbers.{none, count, without}
+use Rattle.recency.specs.Numbers.{count, without}
 use Rattle.recency.specs.Lists.{Reads, Listed}
 use Rattle.recency.specs.declared.RecencyList.{RecencyList}
 use Rattle.recency.proofs.Columns.{column_of_rest, column_kept, column_set}

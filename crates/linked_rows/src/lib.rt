@@ -1,5 +1,6 @@
 //! Rows that are in a recency list and in a hash table at once: entries, with keys that are texts in lent memory, and
 //! visitors, with keys that are numbers.
+#![tactic(auto)]
 
 mod arena;
 mod book;

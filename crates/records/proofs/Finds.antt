@@ -1,14 +1,14 @@
 -- A search by key over rows finds what the reference table holds under the key. Assumes nothing.
-use Rattle.std.proofs.Common.{◌≡◌, ℕ, ◌+◌, ◌-◌, ◌<◌, ◌≤◌, Bool, true, false, List, [], ◌∷◌, map, length, Some, None, Option, sym, refl, ap, ◌∙◌, subst, arith}
+use Rattle.std.proofs.Common.{◌≡◌, ℕ, List, [], ◌∷◌, map, Some, None, Option, sym, refl, ap, ◌∙◌, subst}
 use Rattle.std.specs.List.{flat_map}
 use Rattle.slabs.specs.declared.row.Row.{Row}
 use Rattle.slabs.specs.Lists.{held_of}
 use Rattle.slabs.specs.Layouts.{Layout}
 use Rattle.model.specs.Setup.{Setup}
 use Rattle.model.specs.Records.{Key, Record, has_key, class_no}
-use Rattle.model.specs.Store.{Class, class_at, records_of, first}
+use Rattle.model.specs.Store.{Class, records_of, first}
 use Rattle.model.proofs.Held.{On, here, there, first_on, on_map, key_is}
-use Rattle.model.proofs.Sound.{Sound, Numbered, Lives, lives, on_class, found}
+use Rattle.model.proofs.Sound.{Sound, Numbered, lives, on_class, found}
 use Rattle.records.specs.Reading.{record_at, ShowsClasses}
 
 -- a record of a list that is read off rows is that of one of the rows

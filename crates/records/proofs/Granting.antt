@@ -1,6 +1,5 @@
 -- What is shown when chunks are granted and returned: the same records. Assumes nothing.
-use Rattle.std.proofs.Common.{◌≡◌, ℕ, ◌+◌, ◌-◌, ◌*◌, ◌<◌, ◌≤◌, Bool, true, false, cond, eqb, ltb, List, [], ◌∷◌, map, length, get_or, is_some, IfSome, Some, None, Option, sym, refl, ap, ◌∙◌, subst, ⊎_elim, arith, MatchOption}
-use native.Mathlib.Bridge.{le_prop}
+use Rattle.std.proofs.Common.{◌≡◌, ℕ, ◌+◌, ◌*◌, ◌<◌, ◌≤◌, ltb, List, [], ◌∷◌, map, length, get_or, is_some, IfSome, Some, None, Option, sym, refl, ap, ◌∙◌, subst, ⊎_elim, arith, MatchOption}
 use mathlib.Core.Logic.{∥∥₁_elim, ∥∥₁_map, ∥∥₁_prop}
 use lib.ListN.{length-map}
 use Rattle.std.specs.Option.{option_map}
@@ -13,9 +12,8 @@ use Rattle.plan.specs.Classes as plan
 use Rattle.slabs.specs.declared.class.Stand.TheVariants.{Free, Granted, Held}
 use Rattle.slabs.specs.declared.grant.Grant.{Grant}
 use Rattle.slabs.specs.declared.slab.Slab.{Slab}
-use Rattle.slabs.specs.Classes.{count_at}
 use Rattle.slabs.specs.Rows.{rest, rests}
-use Rattle.slabs.specs.Lists.{held_of, granted_of, free_of, list_of, shift}
+use Rattle.slabs.specs.Lists.{held_of, granted_of, free_of, shift}
 use Rattle.slabs.specs.Layouts.{class_at}
 use Rattle.slabs.specs.Slabs as slab
 use Rattle.slabs.specs.Slabs.{Sound, Taken, Lists, Shifted, Holds, rows_of, homes_of, layout}
@@ -29,8 +27,8 @@ use Rattle.model.specs.Store.{Class}
 use Rattle.model.specs.Sound.{Numbered}
 use Rattle.records.specs.declared.records.Records.{Records}
 use Rattle.records.specs.Standing.{Standing}
-use Rattle.records.specs.Kept.{GrantedTo, NoGrant, OnlyGrant}
-use Rattle.records.specs.Reading.{record_at, shown_class, ShowsClasses}
+use Rattle.records.specs.Kept.{NoGrant, OnlyGrant}
+use Rattle.records.specs.Reading.{record_at}
 use Rattle.records.specs.Showing.{Cut, ShowsRecords}
 use Rattle.records.proofs.Chaining.{within}
 use Rattle.records.proofs.Indexing.{with_slab, reindexed_by}

@@ -1,5 +1,5 @@
 -- The table holds the same rows where lists change only their order. Assumes nothing.
-use Rattle.std.proofs.Common.{◌≡◌, ℕ, cond, eqb, map, get_or, sym, refl, ap, ◌∙◌, ⊎_elim}
+use Rattle.std.proofs.Common.{◌≡◌, ℕ, cond, eqb, get_or, sym, refl, ap, ◌∙◌, ⊎_elim}
 use Rattle.std.proofs.lemmas.Bool.{cases_eq, eq-eqb, ne_eqb}
 use Rattle.recency.proofs.Columns.{column_of_rest}
 use Rattle.chained.specs.Chains.{size}

@@ -1,22 +1,19 @@
 -- What is shown once a record left. Assumes nothing.
-use Rattle.std.proofs.Common.{◌≡◌, ℕ, ◌+◌, ◌-◌, ◌*◌, ◌<◌, ◌≤◌, Bool, true, false, cond, eqb, List, map, length, get_or, set, filter, sym, refl, ap, ◌∙◌, subst, ⊎_elim, arith}
-use Rattle.std.specs.List.{AllByRecursion as All}
+use Rattle.std.proofs.Common.{◌≡◌, ℕ, ◌<◌, eqb, List, map, length, get_or, set, filter, sym, refl, ap, ◌∙◌, subst, ⊎_elim, arith}
 use Rattle.std.proofs.lemmas.List.{get_or-set_same, get_or-set_other}
 use Rattle.std.proofs.lemmas.Bool.{cases_eq, eq-eqb, ne_eqb, cond-true, cond-false}
-use Rattle.recency.specs.Numbers as rows
 use Rattle.recency.proofs.Columns.{column_of_rest}
 use Rattle.chained.specs.Fnv.{fnv}
-use Rattle.slabs.specs.declared.row.Row.{Row}
 use Rattle.slabs.specs.declared.slab.Slab.{Slab}
 use Rattle.slabs.specs.Lists.{held_of, free_of, shift}
-use Rattle.slabs.specs.Layouts.{Layout, class_at}
+use Rattle.slabs.specs.Layouts.{class_at}
 use Rattle.slabs.specs.Slabs.{Lists, Holds, rows_of, homes_of, layout}
 use Rattle.model.specs.Setup.{Setup}
 use Rattle.model.specs.Records.{Record, class_no, other_key}
 use Rattle.model.specs.Store as model
 use Rattle.model.specs.Store.{Class}
 use Rattle.model.proofs.Held.{On, on_map, all_on}
-use Rattle.model.proofs.Sound.{Sound, Numbered, Lives, sound_without}
+use Rattle.model.proofs.Sound.{Numbered, Lives, sound_without}
 use Rattle.records.specs.Reading.{record_at, without_record, ShowsClasses}
 use Rattle.records.specs.Showing.{Cut, ShowsRecords}
 use Rattle.records.proofs.Maps.{on_counted, counted_on}

@@ -1,7 +1,6 @@
 -- What is shown when a granted chunk is filled: one record more, at the front of its class. Assumes nothing.
-use Rattle.std.proofs.Common.{◌≡◌, ℕ, ◌+◌, ◌-◌, ◌*◌, ◌<◌, ◌≤◌, Bool, true, false, cond, eqb, List, [], ◌∷◌, map, length, get_or, set, None, vec_items, Vec, sym, refl, ap, ◌∙◌, subst, ⊎_elim, arith}
-use mathlib.Core.HLevel.{⊥_prop}
-use mathlib.Core.Logic.{∥∥₁_elim, ∥∥₁_map, ∥∥₁_prop}
+use Rattle.std.proofs.Common.{◌≡◌, ℕ, ◌<◌, ◌≤◌, cond, eqb, List, [], ◌∷◌, map, length, get_or, set, None, vec_items, Vec, sym, refl, ap, ◌∙◌, subst, ⊎_elim, arith}
+use mathlib.Core.Logic.{∥∥₁_map}
 use lib.ListN.{length-map}
 use Rattle.std.specs.declared.alloc.Global.{Global}
 use Rattle.std.specs.List.{flat_map}
@@ -20,7 +19,7 @@ use Rattle.slabs.specs.Rows.{blank}
 use Rattle.slabs.specs.Lists.{held_of, granted_of, shift}
 use Rattle.slabs.specs.Layouts.{class_at}
 use Rattle.slabs.specs.Records.{Described, key_of, data_of, tags}
-use Rattle.slabs.specs.Slabs.{Sound, Lists, Shifted, Holds, rows_of, homes_of, layout}
+use Rattle.slabs.specs.Slabs.{Sound, Shifted, Holds, rows_of, homes_of, layout}
 use Rattle.slabs.proofs.Ends.{class_is, owners_few}
 use Rattle.slabs.proofs.Families.{present}
 use Rattle.slabs.proofs.Pages.{counts_whole}
@@ -38,10 +37,9 @@ use Rattle.records.specs.Kept.{GrantedTo}
 use Rattle.records.specs.Reading.{record_at, brought, ShowsClasses}
 use Rattle.records.specs.Showing.{Cut, ShowsRecords}
 use Rattle.records.proofs.Chaining.{unchained, with_rows, homes_same, lists_same, within}
-use Rattle.records.proofs.Granting.{NotRecords, granted_not, home_there, home_off, records_long, chunks_all}
-use Rattle.records.proofs.Leaving.{alone, on_named, names_on}
-use Rattle.records.proofs.Maps.{on_counted, counted_on}
-use Rattle.records.proofs.Telling.{at_column, by_columns, hashes_of}
+use Rattle.records.proofs.Granting.{granted_not, home_there, home_off, records_long, chunks_all}
+use Rattle.records.proofs.Leaving.{alone, names_on}
+use Rattle.records.proofs.Telling.{by_columns, hashes_of}
 use Rattle.records.proofs.Turns.{told, same_records, shows_linked}
 
 -- a record by its bytes and its row's tag

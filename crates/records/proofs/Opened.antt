@@ -1,19 +1,16 @@
 -- What is shown at the opening: no records. Assumes nothing.
-use Rattle.std.proofs.Common.{◌≡◌, ℕ, ◌+◌, ◌-◌, ◌*◌, ◌/◌, ◌<◌, ◌≤◌, min, Bool, true, false, cond, ◌&&◌, eqb, leb, List, [], map, length, get_or, take, replicate, sym, refl, ap, ◌∙◌, subst, ⊎_elim, arith}
+use Rattle.std.proofs.Common.{◌≡◌, ℕ, ◌-◌, ◌*◌, ◌<◌, ◌≤◌, cond, ◌&&◌, eqb, leb, List, [], length, get_or, take, replicate, sym, refl, ap, ◌∙◌, ⊎_elim, arith}
 use native.Mathlib.Bridge.{le_prop}
-use mathlib.Core.Logic.{∥∥₁_elim, ∥∥₁_map}
-use lib.ListN.{length-map, length-replicate}
+use mathlib.Core.Logic.{∥∥₁_elim}
+use lib.ListN.{length-replicate}
 use Rattle.std.proofs.lemmas.Bool.{cases_lt, cases_Bool, eq-eqb, ne_eqb, cond-true, cond-false, le-leb, leb-true, and_from, and_parts}
 use Rattle.std.proofs.lemmas.List.{get_or-replicate}
 use Rattle.recency.specs.Numbers.{count, none}
-use Rattle.chained.specs.Fnv.{fnv}
 use Rattle.plan.specs.declared.plan.Plan.{Plan}
 use Rattle.plan.specs.Plans.{plan_sizes}
 use Rattle.plan.specs.Classes as plan
-use Rattle.plan.proofs.Facts.{fair}
 use Rattle.slabs.specs.declared.slab.Slab.{Slab}
-use Rattle.slabs.specs.Classes.{planned}
-use Rattle.slabs.specs.Lists.{held_of, granted_of}
+use Rattle.slabs.specs.Lists.{held_of}
 use Rattle.slabs.specs.Layouts.{class_at}
 use Rattle.slabs.specs.Openings.{Opened, pages_of}
 use Rattle.slabs.specs.Slabs.{Sound, Lists, Holds, rows_of, homes_of, layout}

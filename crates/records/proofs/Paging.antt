@@ -1,5 +1,5 @@
 -- What is shown when a page is given to a class: the class has one page more. Assumes nothing.
-use Rattle.std.proofs.Common.{◌≡◌, ℕ, ◌+◌, ◌-◌, ◌*◌, ◌/◌, ◌%◌, ◌<◌, ◌≤◌, Bool, true, false, cond, ◌&&◌, ltb, List, map, length, get_or, set, MatchBool, sym, refl, ap, ◌∙◌, subst, ⊎_elim, arith}
+use Rattle.std.proofs.Common.{◌≡◌, ℕ, ◌+◌, ◌*◌, ◌/◌, ◌%◌, ◌<◌, ◌≤◌, Bool, true, false, cond, ◌&&◌, ltb, List, map, length, get_or, MatchBool, sym, refl, ap, ◌∙◌, subst, ⊎_elim, arith}
 use mathlib.Core.HLevel.{⊥_prop}
 use mathlib.Core.Logic.{∥∥₁_elim, ∥∥₁_map, ∥∥₁_prop}
 use lib.ListN.{length-map}
@@ -7,12 +7,11 @@ use Rattle.std.proofs.lemmas.List.{get_or-set_same, get_or-set_other}
 use Rattle.std.proofs.lemmas.Bool.{cases_eq, cases_lt, ltb-true, lt-ltb, true≢false, and_parts}
 use Rattle.recency.proofs.Columns.{column_of_rest}
 use Rattle.chained.specs.Fnv.{fnv}
-use Rattle.slabs.specs.declared.row.Row.{Row}
 use Rattle.slabs.specs.declared.slab.Slab.{Slab}
 use Rattle.slabs.specs.Rows.{blank, rest, rests}
-use Rattle.slabs.specs.Lists.{held_of, granted_of, free_of, stocked, filled}
-use Rattle.slabs.specs.Layouts.{Layout, class_at, start, with_page}
-use Rattle.slabs.specs.Slabs.{Sound, Lists, PageGiven, Holds, rows_of, homes_of, layout}
+use Rattle.slabs.specs.Lists.{held_of, granted_of, free_of, stocked}
+use Rattle.slabs.specs.Layouts.{class_at}
+use Rattle.slabs.specs.Slabs.{Sound, PageGiven, Holds, rows_of, homes_of, layout}
 use Rattle.slabs.proofs.Pages.{classes_few, stock_within, stock_few}
 use Rattle.slabs.proofs.Placing.{home_chunk}
 use Rattle.slabs.proofs.Shifts.{stocked_off}
@@ -20,7 +19,6 @@ use Rattle.slabs.proofs.Stocking.{filled_below, filled_above, filled_there}
 use Rattle.model.specs.Setup.{Setup}
 use Rattle.model.specs.Store as model
 use Rattle.model.specs.Store.{Class}
-use Rattle.model.proofs.Held.{On}
 use Rattle.model.specs.Sound.{Numbered}
 use Rattle.model.proofs.Sound.{at_same, at_other, in_range, sound_page}
 use Rattle.records.specs.declared.records.Records.{Records}

@@ -1,5 +1,5 @@
 -- What is shown once something else is told of a record. Assumes nothing.
-use Rattle.std.proofs.Common.{◌≡◌, ℕ, zero, suc, ◌+◌, ◌-◌, ◌*◌, ◌<◌, ◌≤◌, List, [], ◌∷◌, map, length, get_or, set, filter, Option, sym, refl, ap, ◌∙◌, subst, ⊎_elim, arith}
+use Rattle.std.proofs.Common.{◌≡◌, ℕ, zero, suc, ◌+◌, ◌<◌, List, [], ◌∷◌, map, length, get_or, set, filter, Option, sym, refl, ap, ◌∙◌, subst, ⊎_elim}
 use lib.ListN.{length-map}
 use Rattle.std.proofs.lemmas.List.{get_or-set_same, get_or-set_other, map-set, set-get_or}
 use Rattle.std.proofs.lemmas.Bool.{cases_eq}
@@ -8,16 +8,16 @@ use Rattle.chained.specs.Fnv.{fnv}
 use Rattle.slabs.specs.declared.row.Row.{Row}
 use Rattle.slabs.specs.declared.row.Tag.{Tag}
 use Rattle.slabs.specs.declared.slab.Slab.{Slab}
-use Rattle.slabs.specs.Rows.{blank, rest, rests}
+use Rattle.slabs.specs.Rows.{blank, rest}
 use Rattle.slabs.specs.Lists.{held_of, to_front}
 use Rattle.slabs.specs.Layouts.{Layout, class_at, start}
-use Rattle.slabs.specs.Slabs.{Lists, Holds, Reordered, rows_of, homes_of, layout}
+use Rattle.slabs.specs.Slabs.{Holds, Reordered, rows_of, homes_of, layout}
 use Rattle.slabs.specs.Records.{bytes_at, Retagged, key_lens, data_lens, tags}
 use Rattle.model.specs.Setup.{Setup}
-use Rattle.model.specs.Records.{Record, class_no, other_key, moved_at, expiring}
+use Rattle.model.specs.Records.{Record, other_key, moved_at, expiring}
 use Rattle.model.specs.Store as model
 use Rattle.model.specs.Store.{Class}
-use Rattle.model.proofs.Sound.{Sound, Numbered, sound_front, sound_aged}
+use Rattle.model.proofs.Sound.{Numbered, sound_front, sound_aged}
 use Rattle.records.specs.Reading.{record_at, with_front, with_expiry, ShowsClasses}
 use Rattle.records.specs.Showing.{Cut, ShowsRecords}
 use Rattle.records.proofs.Turns.{told, same_records, shows_moved, shows_aged}

@@ -1,21 +1,20 @@
 -- How the classes shown change with the lists of rows. Assumes nothing.
-use Rattle.std.proofs.Common.{◌≡◌, ℕ, zero, suc, ◌+◌, ◌-◌, ◌*◌, ◌<◌, ◌≤◌, Bool, true, false, cond, not, eqb, ◌⊎◌, List, [], ◌∷◌, ◌++◌, map, length, get_or, set, filter, Option, sym, refl, ap, ◌∙◌, subst, inl, inr, ⊎_elim, arith}
-use Rattle.std.specs.List.{flat_map}
-use Rattle.std.proofs.lemmas.Bool.{cases_eq, ne_eqb, eq-eqb}
+use Rattle.std.proofs.Common.{◌≡◌, ℕ, zero, suc, ◌≤◌, List, [], ◌∷◌, map, get_or, filter, Option, sym, refl, ap, ◌∙◌, subst, ⊎_elim, arith}
+use Rattle.std.proofs.lemmas.Bool.{cases_eq}
 use Rattle.recency.specs.Numbers as rows
 use Rattle.slabs.specs.declared.row.Row.{Row}
 use Rattle.slabs.specs.Rows.{blank}
-use Rattle.slabs.specs.Lists.{held_of, free_of, granted_of, shift, to_front, into, out_of}
+use Rattle.slabs.specs.Lists.{held_of, free_of, granted_of, shift, to_front}
 use Rattle.slabs.specs.Layouts.{Layout, start}
 use Rattle.slabs.proofs.Shifts.{shift_off, shift_from, shift_to, front_there, front_off}
 use Rattle.model.specs.Setup.{Setup}
 use Rattle.model.specs.Records.{Key, Record, has_key, other_key, moved_at, expiring}
-use Rattle.model.specs.Store.{Class, class_at, with_records, records_of, aged}
+use Rattle.model.specs.Store.{Class, class_at, with_records, aged}
 use Rattle.model.proofs.Held.{On, count}
 use Rattle.model.proofs.Sound.{Sound, Numbered, at_same, at_other, in_range}
 use Rattle.records.specs.Reading.{record_of, record_at, shown_class, ShowsClasses}
 use Rattle.model.proofs.Truth.{class_few}
-use Rattle.records.proofs.Maps.{map_same, map_without, map_aged, on_without, on_counted, counted_on}
+use Rattle.records.proofs.Maps.{map_same, map_without, map_aged, on_without}
 
 -- what a row tells of its record: all but its links, its list and its place in its chain
 abbrev pub told : Row → Row

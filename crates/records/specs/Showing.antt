@@ -1,8 +1,7 @@
 -- What rows and page memory show of the reference table.
-use Rattle.std.specs.Prelude.{◌≡◌, ℕ, ◌<◌, ◌≤◌, List, map, length, slice_index}
+use Rattle.std.specs.Prelude.{◌≡◌, ℕ, ◌<◌, List, map, slice_index}
 use Rattle.plan.specs.Classes as plan
 use Rattle.chained.specs.Fnv.{fnv}
-use Rattle.slabs.specs.Lists.{held_of}
 use Rattle.slabs.specs.Layouts.{Layout, class_at}
 use Rattle.slabs.specs.Slabs.{Lists, Holds, rows_of, layout}
 use Rattle.model.specs.Setup.{Setup}

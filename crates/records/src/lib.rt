@@ -1,4 +1,5 @@
 //! The records of the table: rows, hash chains, chunks and bytes of pages that are the reference table's records.
+#![tactic(auto)]
 
 mod dead;
 mod keys;

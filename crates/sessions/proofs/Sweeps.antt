@@ -1,6 +1,6 @@
 -- A sweep from the back of a list of sessions.
 use Rattle.std.proofs.Common.{◌≡◌, ℕ, ◌+◌, ◌<◌, ◌≤◌, Bool, true, false, cond, not, leb, List, [], ◌∷◌, ◌++◌, map, length, get_or, Some, None, filter, sym, refl, ap, ◌∙◌, subst, ap₂, arith, length-append}
-use Rattle.std.specs.List.{AllByRecursion as All}
+use Rattle.std.specs.List.{AllByRecursion}
 use Rattle.std.proofs.lemmas.List.Elements.{filter-append}
 use Rattle.std.proofs.ByRecursion.{all_kept_by, All-weaker}
 use Rattle.std.proofs.lemmas.List.Filters.{length-filter_both}
@@ -70,7 +70,7 @@ pub swept_count : (now limit : ℕ) (xs ys : List Session) (n : ℕ) → Swept n
 swept_count now limit xs ys n s = omega (arith, s.3, ap length s.1, length-append ys s.0)
 
 -- in a list that is in order, a busy session at the end leaves none idle
-all_busy : (now limit : ℕ) (xs : List Session) → Descending xs → EndsBusy now limit xs → All (λ x. busy now limit x ≡ true) xs
+all_busy : (now limit : ℕ) (xs : List Session) → Descending xs → EndsBusy now limit xs → AllByRecursion (λ x. busy now limit x ≡ true) xs
 all_busy now limit [] d e = tt
 all_busy now limit (x ∷ []) d e = (e [] x refl, tt)
 all_busy now limit (x ∷ y ∷ ys) d e =
@@ -78,11 +78,11 @@ all_busy now limit (x ∷ y ∷ ys) d e =
     let later : now < y.last + limit = leb-false (y.last + limit) now (not-true (leb (y.last + limit) now) rest.0) in
     (ap not (lt-leb (x.last + limit) now (omega (arith, d.0.0))), rest)
 
-all_kept : (p : Session → Bool) (xs : List Session) → All (λ x. p x ≡ true) xs → filter p xs ≡ xs
+all_kept : (p : Session → Bool) (xs : List Session) → AllByRecursion (λ x. p x ≡ true) xs → filter p xs ≡ xs
 all_kept p [] h = refl
 all_kept p (x ∷ xs) h = ap (λ b. cond b (x ∷ filter p xs) (filter p xs)) h.0 ∙ ap (λ ys. x ∷ ys) (all_kept p xs h.1)
 
-none_kept : (now limit : ℕ) (xs : List Session) → All (λ x. idle_enough now limit x ≡ true) xs → filter (busy now limit) xs ≡ []
+none_kept : (now limit : ℕ) (xs : List Session) → AllByRecursion (λ x. idle_enough now limit x ≡ true) xs → filter (busy now limit) xs ≡ []
 none_kept now limit [] h = refl
 none_kept now limit (x ∷ xs) h =
     ap (λ b. cond (not b) (x ∷ filter (busy now limit) xs) (filter (busy now limit) xs)) h.0 ∙ none_kept now limit xs h.1

@@ -1,6 +1,6 @@
 -- Lists of sessions: one of a caller, and in the order of their last seconds.
 use Rattle.std.specs.Prelude.{◌≡◌, ℕ, ◌≤◌, Bool, true, List, [], ◌∷◌, ◌++◌, length, filter}
-use Rattle.std.specs.List.{AllByRecursion as All}
+use Rattle.std.specs.List.{AllByRecursion}
 use Rattle.model.specs.Calls.{Session, of_caller, busy, idle_enough, served}
 
 -- no caller has two sessions
@@ -9,7 +9,7 @@ Distinct xs = (caller : ℕ) → length (filter (of_caller caller) xs) ≤ 1
 
 -- no session was served later than now
 abbrev pub Until : ℕ → List Session → Type 0
-Until now xs = All (λ x. x.last ≤ now) xs
+Until now xs = AllByRecursion (λ x. x.last ≤ now) xs
 
 -- no session has a later last second than one in front of it
 abbrev pub Descending : List Session → Type 0
@@ -26,7 +26,7 @@ LastIdle now limit xs ys = (x : Session) × (xs ≡ ys ++ x ∷ []) × (idle_eno
 
 -- `ys` is what is left of `xs` when the last n, each of which was idle long enough, were closed
 abbrev pub Swept : ℕ → ℕ → List Session → ℕ → List Session → Type 0
-Swept now limit xs n ys = (zs : List Session) × (xs ≡ ys ++ zs) × All (λ x. idle_enough now limit x ≡ true) zs × (n ≡ length zs)
+Swept now limit xs n ys = (zs : List Session) × (xs ≡ ys ++ zs) × AllByRecursion (λ x. idle_enough now limit x ≡ true) zs × (n ≡ length zs)
 
 -- The clock never runs back, so that a list which is in order stays so, and no session is later than the clock: when
 -- a session is served now, when sessions are closed, and when time goes on.

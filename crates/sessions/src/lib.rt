@@ -1,4 +1,5 @@
 //! The open sessions: at most 64 callers, the one served last in front, the one that was idle longest at the back.
+#![tactic(auto)]
 
 mod facts;
 mod roster;

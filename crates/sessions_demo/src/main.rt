@@ -1,4 +1,5 @@
 //! A day of sessions: filled, refused, served, closed, and swept when idle.
+#![tactic(auto)]
 
 use refusals::Refusal;
 use sessions::{SessionRow, Sessions};

@@ -1,5 +1,5 @@
 -- When a slab may be worked on with a page memory.
-use Rattle.std.specs.Prelude.{ℕ, ◌*◌, ◌≤◌, List, length}
+use Rattle.std.specs.Prelude.{ℕ, ◌*◌, ◌≤◌}
 use Rattle.slabs.specs.declared.slab.Slab.{Slab}
 use Rattle.slabs.specs.Slabs.{Sound}
 

@@ -1,4 +1,5 @@
 //! Fills classes page by page, takes, returns, removes and refills, and compares every record with its copy after each step.
+#![tactic(auto)]
 
 ghost use Rattle.std.specs.Prelude.{length};
 ghost use Rattle.slab_demo.specs.Ready.{Ready};

@@ -1,5 +1,5 @@
 -- A layout whose classes keep their frames.
-use Rattle.std.proofs.Common.{◌≡◌, ℕ, ◌<◌, List, map, length, get_or, set, sym, refl, ap, ◌∙◌}
+use Rattle.std.proofs.Common.{◌≡◌, ℕ, ◌<◌, List, map, length, get_or, set, refl, ap, ◌∙◌}
 use Rattle.recency.proofs.Columns.{column_kept, column_of_rest}
 use Rattle.slabs.specs.declared.class.Class.{Class}
 use Rattle.slabs.specs.Classes.{frame, no_class}

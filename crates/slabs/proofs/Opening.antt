@@ -1,26 +1,23 @@
 -- A slab that was just opened is sound, and has no rows in its lists.
-use Rattle.std.proofs.Common.{◌≡◌, ℕ, zero, suc, ◌+◌, ◌-◌, ◌*◌, ◌/◌, ◌%◌, ◌<◌, ◌≤◌, Bool, true, false, cond, ◌&&◌, eqb, leb, List, [], ◌∷◌, map, length, get_or, take, set, replicate, Some, None, unwrap_or, sym, refl, ap, ◌∙◌, subst, ⊎_elim, div-lt_iff_lt-mul, zero-mul, arith, length-take}
+use Rattle.std.proofs.Common.{◌≡◌, ℕ, zero, suc, ◌+◌, ◌-◌, ◌*◌, ◌/◌, ◌<◌, ◌≤◌, Bool, true, false, cond, ◌&&◌, leb, List, [], ◌∷◌, map, length, get_or, take, replicate, Some, None, unwrap_or, sym, refl, ap, ◌∙◌, ⊎_elim, div-lt_iff_lt-mul, zero-mul, arith, length-take}
 use lib.ListN.{length-map, length-replicate}
-use Rattle.std.proofs.lemmas.List.{get_or-replicate, get_or_past, get_or-map}
+use Rattle.std.proofs.lemmas.List.{get_or_past, get_or-map}
 use Rattle.std.proofs.lemmas.Bool.{cases_lt, and_parts, and_right, leb-true, lt-leb, cond-false}
 use Rattle.std.proofs.lemmas.Bool.Decides.{nat_tests}
-use Rattle.recency.specs.Numbers.{none, count}
+use Rattle.recency.specs.Numbers.{count}
 use Rattle.plan.specs.declared.plan.Plan.{Plan}
 use Rattle.plan.specs.Plans.{plan_sizes}
 use Rattle.plan.specs.Sizes.{sizes_of}
 use Rattle.plan.specs.Classes.{chunks_of, of_class, size_at as plan-size}
 use Rattle.plan.proofs.Rule.{least_size}
 use Rattle.plan.proofs.Ask.{tiles}
-use Rattle.slabs.specs.declared.row.Row.{Row}
 use Rattle.slabs.specs.declared.class.Class.{Class}
 use Rattle.slabs.specs.declared.class.Stand.{Stand}
 use Rattle.slabs.specs.declared.class.Stand.TheVariants.{Free, Granted, Held}
 use Rattle.slabs.specs.declared.slab.Slab.{Slab}
 use Rattle.slabs.specs.Rows.{blank, homes}
 use Rattle.slabs.specs.Classes.{place, no_class, planned, Fresh}
-use Rattle.slabs.specs.Lists.{Family, list_of}
-use Rattle.slabs.specs.Layouts.{Layout, Placed, Chunk, class_at, Fitting, Full}
-use Rattle.slabs.specs.Slabs.{rows_of, homes_of, spans_of, layout, Lists, Sound}
+use Rattle.slabs.specs.Slabs.{rows_of, homes_of, layout, Lists, Sound}
 
 value_of : (b : Bool) (x : ℕ) → unwrap_or (cond b (Some x) None) 0 ≡ cond b x 0
 value_of true x = refl

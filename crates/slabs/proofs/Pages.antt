@@ -1,5 +1,5 @@
 -- A page that is given to a class.
-use Rattle.std.proofs.Common.{◌≡◌, ℕ, zero, suc, ◌+◌, ◌*◌, ◌/◌, ◌%◌, ◌<◌, ◌≤◌, Bool, true, false, cond, eqb, List, [], ◌∷◌, ◌++◌, map, length, get_or, take, set, sym, refl, ap, ◌∙◌, subst, ⊎_elim, add-mul, one-mul, arith, length-set}
+use Rattle.std.proofs.Common.{◌≡◌, ℕ, ◌+◌, ◌*◌, ◌/◌, ◌%◌, ◌<◌, ◌≤◌, cond, eqb, List, [], ◌∷◌, map, length, get_or, take, set, sym, refl, ap, ◌∙◌, subst, ⊎_elim, add-mul, one-mul, arith, length-set}
 use native.Mathlib.Bridge.{le_prop}
 use mathlib.Core.Logic.{∥∥₁_elim}
 use lib.ListN.{length-map}
@@ -14,9 +14,9 @@ use Rattle.slabs.specs.declared.class.Stand.TheVariants.{Free, Granted, Held}
 use Rattle.slabs.specs.declared.slab.Slab.{Slab}
 use Rattle.slabs.specs.Rows.{rests}
 use Rattle.slabs.specs.Classes.{no_class, with_share, count_at}
-use Rattle.slabs.specs.Lists.{free_of, held_of, stocked, filled}
-use Rattle.slabs.specs.Layouts.{Layout, Placed, OfClass, Chunk, class_at, size_at, start, with_page, Fitting, Full}
-use Rattle.slabs.specs.Slabs.{rows_of, homes_of, spans_of, cut, layout, Lists, Sound, PageGiven}
+use Rattle.slabs.specs.Lists.{free_of, stocked, filled}
+use Rattle.slabs.specs.Layouts.{Layout, Placed, Chunk, class_at, size_at, start, with_page, Fitting, Full}
+use Rattle.slabs.specs.Slabs.{rows_of, homes_of, spans_of, cut, layout, Sound, PageGiven}
 use Rattle.slabs.proofs.Placing.{shares_few}
 use Rattle.slabs.proofs.Sounds.{spans_of_rests, lists_few}
 use Rattle.slabs.proofs.Stocking.{filled_long, filled_below, filled_above, filled_there, stocked_long}

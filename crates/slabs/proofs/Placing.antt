@@ -7,10 +7,10 @@ use Rattle.recency.specs.Numbers.{count, without}
 use Rattle.slabs.specs.declared.class.Stand.{Stand}
 use Rattle.slabs.specs.declared.class.Stand.TheVariants.{Free, Granted, Held}
 use Rattle.slabs.specs.declared.class.Class.{Class}
-use Rattle.slabs.specs.Classes.{place, no_class}
+use Rattle.slabs.specs.Classes.{no_class}
 use Rattle.slabs.specs.Slabs.{cut}
-use Rattle.slabs.specs.Lists.{list_of, held_of, into, out_of, shift}
-use Rattle.slabs.specs.Layouts.{Layout, Placed, OfClass, Chunk, class_at, size_at, start, Fitting, Full}
+use Rattle.slabs.specs.Lists.{list_of, held_of, out_of, shift}
+use Rattle.slabs.specs.Layouts.{Layout, Placed, OfClass, Chunk, class_at, size_at, Fitting, Full}
 use Rattle.slabs.proofs.Reading.{place_few}
 use Rattle.slabs.proofs.Families.{list_num, length_without}
 

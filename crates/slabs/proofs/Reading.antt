@@ -1,5 +1,5 @@
 -- Lists of rows under equations of their parts.
-use Rattle.std.proofs.Common.{◌≡◌, ℕ, ◌<◌, List, map, length, get_or, set, sym, refl, ap, ◌∙◌, subst, arith}
+use Rattle.std.proofs.Common.{◌≡◌, ℕ, ◌<◌, List, map, length, get_or, set, refl, ap, ◌∙◌, arith}
 use Rattle.std.proofs.lemmas.List.{get_or-set_same, get_or-set_other}
 use Rattle.recency.specs.declared.RecencyList.{RecencyList}
 use Rattle.recency.proofs.Known.{listed_as}
@@ -8,7 +8,7 @@ use Rattle.slabs.specs.declared.row.Row.{Row}
 use Rattle.slabs.specs.declared.class.Stand.{Stand}
 use Rattle.slabs.specs.declared.class.Stand.TheVariants.{Free, Granted, Held}
 use Rattle.slabs.specs.Rows.{RowsRead, homes, rest, rests}
-use Rattle.slabs.specs.Classes.{place, no_list}
+use Rattle.slabs.specs.Classes.{place}
 
 pub place_few : (stand : Stand) → place stand < 3
 place_few Free = omega arith

@@ -1,5 +1,5 @@
 -- What a sound slab tells, and that it is sound still after a row was shifted.
-use Rattle.std.proofs.Common.{◌≡◌, ℕ, ◌+◌, ◌*◌, ◌<◌, ◌≤◌, Bool, true, false, cond, eqb, List, [], ◌∷◌, map, length, get_or, set, sym, refl, ap, ◌∙◌, subst, arith}
+use Rattle.std.proofs.Common.{◌≡◌, ℕ, ◌+◌, ◌*◌, ◌<◌, ◌≤◌, Bool, true, false, cond, eqb, List, ◌∷◌, length, get_or, set, sym, refl, ap, ◌∙◌, subst, arith}
 use native.Mathlib.Bridge.{le_prop}
 use mathlib.Core.Logic.{∥∥₁_elim, ∥∥₁_map}
 use lib.ListN.{length-map}
@@ -13,7 +13,7 @@ use Rattle.slabs.specs.declared.slab.Slab.{Slab}
 use Rattle.slabs.specs.Rows.{rest, rests}
 use Rattle.slabs.specs.Classes.{count_at}
 use Rattle.slabs.specs.Lists.{list_of, held_of, out_of, shift, to_front}
-use Rattle.slabs.specs.Layouts.{Layout, Placed, OfClass, Fitting, Full, class_at}
+use Rattle.slabs.specs.Layouts.{Placed, OfClass, Fitting, Full, class_at}
 use Rattle.slabs.specs.Slabs.{rows_of, homes_of, spans_of, layout, Lists, Sound, Shifted, Reordered}
 use Rattle.slabs.proofs.Families.{list_some, present, length_without}
 use Rattle.slabs.proofs.Placing.{home_chunk, home_within, home_class, home_few, stand_of_class, placed_shift, fitting_shift, chunks_few, full_shift}

@@ -1,11 +1,10 @@
 -- Rows that enter a list one after the other.
-use Rattle.std.proofs.Common.{◌≡◌, ℕ, zero, suc, ◌+◌, ◌*◌, ◌<◌, ◌≤◌, Bool, true, false, cond, eqb, List, [], ◌∷◌, length, get_or, set, sym, refl, ap, ◌∙◌, subst, ⊎_elim, arith, length-set}
+use Rattle.std.proofs.Common.{◌≡◌, ℕ, zero, suc, ◌+◌, ◌<◌, ◌≤◌, Bool, true, false, cond, eqb, List, length, get_or, set, refl, ap, ◌∙◌, ⊎_elim, arith, length-set}
 use Rattle.std.proofs.lemmas.List.{get_or-set_same, get_or-set_other}
 use Rattle.std.proofs.lemmas.Bool.{cases_eq}
 use Rattle.slabs.specs.declared.slab.Slab.{Slab}
 use Rattle.slabs.specs.Rows.{rests}
-use Rattle.slabs.specs.Lists.{into, stocked, filled}
-use Rattle.slabs.specs.Layouts.{Layout}
+use Rattle.slabs.specs.Lists.{stocked, filled}
 use Rattle.slabs.specs.Slabs.{rows_of, homes_of, layout, Lists}
 use Rattle.slabs.proofs.Placing.{length_into}
 

@@ -1,5 +1,5 @@
 -- What rows tell of records, after one was described.
-use Rattle.std.proofs.Common.{◌≡◌, ℕ, zero, suc, ◌+◌, ◌*◌, ◌/◌, ◌<◌, ◌≤◌, List, [], ◌∷◌, map, length, get_or, set, sym, refl, ap, ◌∙◌, subst, arith}
+use Rattle.std.proofs.Common.{◌≡◌, ℕ, zero, suc, ◌+◌, ◌*◌, ◌<◌, ◌≤◌, List, [], ◌∷◌, length, get_or, sym, refl, ap, ◌∙◌, subst, arith}
 use native.Mathlib.Bridge.{le_prop}
 use mathlib.Core.Logic.{∥∥₁_elim}
 use lib.ListN.{length-map}
@@ -10,9 +10,9 @@ use Rattle.slabs.specs.declared.row.Tag.{Tag}
 use Rattle.slabs.specs.declared.slab.Slab.{Slab}
 use Rattle.slabs.specs.Rows.{rest, rests}
 use Rattle.slabs.specs.Lists.{held_of}
-use Rattle.slabs.specs.Layouts.{Layout, Placed, Fitting, Full, start, size_at}
+use Rattle.slabs.specs.Layouts.{Placed, Fitting, Full, start, size_at}
 use Rattle.slabs.specs.Slabs.{rows_of, homes_of, spans_of, layout, Lists, Sound, Holds}
-use Rattle.slabs.specs.Records.{key_lens, data_lens, chains, tags, Described, Written, bytes_at, chunk_of, key_of, data_of}
+use Rattle.slabs.specs.Records.{key_lens, data_lens, Described, Written, bytes_at, chunk_of, key_of, data_of}
 use Rattle.slabs.proofs.Bytes.{bytes_part}
 use Rattle.slabs.proofs.Ends.{chunk_inside, page_within, record_fits}
 

@@ -1,7 +1,6 @@
 -- A slab as it is opened: no page was given out.
 use Rattle.std.specs.Prelude.{◌≡◌, ℕ, ◌*◌, ◌/◌, min, List, replicate, slice_index}
 use Rattle.plan.specs.Classes.{chunks_of}
-use Rattle.slabs.specs.declared.row.Row.{Row}
 use Rattle.slabs.specs.declared.slab.Slab.{Slab}
 use Rattle.slabs.specs.Rows.{blank}
 use Rattle.slabs.specs.Classes.{planned}

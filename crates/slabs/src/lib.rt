@@ -1,5 +1,6 @@
 //! The layer that owns space: pages, their classes, the chunks that pages are cut into, and the grants of chunks.
 //! It knows rows, classes and page memory, and nothing of what keys and data mean.
+#![tactic(auto)]
 
 mod class;
 mod grant;

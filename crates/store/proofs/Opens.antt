@@ -2,7 +2,7 @@
 use Rattle.std.proofs.Common.{◌≡◌, ℕ, zero, suc, ◌-◌, ◌*◌, ◌≤◌, List, [], length, get_or, replicate, None, vec_len, sym, refl, ap, ◌∙◌, subst, arith}
 use mathlib.Core.Logic.{∥∥₁_map}
 use lib.ListN.{length-replicate}
-use Rattle.std.specs.List.{AllByRecursion as All}
+use Rattle.std.specs.List.{AllByRecursion}
 use Rattle.plan.specs.Plans.{plan_sizes}
 use Rattle.chained.specs.Chains.{size}
 use Rattle.chained.specs.Growth.{start}
@@ -47,6 +47,6 @@ shown_opened {setup} t rows opened is few records granted table slots sizes cas 
       sizes = sizes;
       cas = cas;
       counts = ap counts_shown counts;
-      soon = λ class num. subst (All (NotBefore (get_or t.soonest class 0))) (sym (no_records (length setup.sizes) (class - 1))) tt;
+      soon = λ class num. subst (AllByRecursion (NotBefore (get_or t.soonest class 0))) (sym (no_records (length setup.sizes) (class - 1))) tt;
       tame = record { linked = omega arith; numbered = omega arith; asked = omega arith; balance = even_empty setup };
     }

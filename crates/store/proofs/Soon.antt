@@ -1,6 +1,6 @@
 -- The seconds before which no record of a class is dead. Assumes nothing.
 use Rattle.std.proofs.Common.{◌≡◌, ℕ, ◌+◌, ◌-◌, ◌<◌, ◌≤◌, Bool, true, false, cond, List, [], ◌∷◌, length, get_or, set, Some, None, filter, Option, sym, refl, subst, ⊎_elim, arith}
-use Rattle.std.specs.List.{AllByRecursion as All}
+use Rattle.std.specs.List.{AllByRecursion}
 use Rattle.std.proofs.ByRecursion.{all_kept_by, All-map, All-weaker}
 use Rattle.std.proofs.lemmas.Bool.{cases_eq, cond_both, leb-false, lt-leb}
 use Rattle.std.proofs.lemmas.List.{get_or-set_same, get_or-set_other}
@@ -14,24 +14,24 @@ use Rattle.store.specs.Showing.{Later, NotBefore, sooner}
 
 -- no record of a class is dead before the second that is kept for the class
 abbrev pub Soon : Setup → List ℕ → List Class → Type 0
-Soon setup soonest ks = (class : ℕ) → Numbered setup class → All (NotBefore (get_or soonest class 0)) (class_at class ks).records
+Soon setup soonest ks = (class : ℕ) → Numbered setup class → AllByRecursion (NotBefore (get_or soonest class 0)) (class_at class ks).records
 
 module _ (setup : Setup) (ks : List Class) (sound : Sound setup ks) (soonest : List ℕ) (soon : Soon setup soonest ks) where
   -- one class has other records
-  pub soon_set : (class : ℕ) → Numbered setup class → (k : Class) → All (NotBefore (get_or soonest class 0)) k.records → Soon setup soonest (set ks (class - 1) k)
+  pub soon_set : (class : ℕ) → Numbered setup class → (k : Class) → AllByRecursion (NotBefore (get_or soonest class 0)) k.records → Soon setup soonest (set ks (class - 1) k)
   soon_set class num k new d there =
       ⊎_elim
       (λ e.
-      subst (λ n. All (NotBefore (get_or soonest n 0)) (class_at n (set ks (class - 1) k)).records) (sym e)
-      (subst (λ x. All (NotBefore (get_or soonest class 0)) x.records) (sym (at_same ks k class (in_range setup ks sound class num))) new))
-      (λ ne. subst (λ x. All (NotBefore (get_or soonest d 0)) x.records) (sym (at_other ks k class d num.low there.low ne)) (soon d there))
+      subst (λ n. AllByRecursion (NotBefore (get_or soonest n 0)) (class_at n (set ks (class - 1) k)).records) (sym e)
+      (subst (λ x. AllByRecursion (NotBefore (get_or soonest class 0)) x.records) (sym (at_same ks k class (in_range setup ks sound class num))) new))
+      (λ ne. subst (λ x. AllByRecursion (NotBefore (get_or soonest d 0)) x.records) (sym (at_other ks k class d num.low there.low ne)) (soon d there))
       (cases_eq d class)
 
   pub soon_page : (class : ℕ) → Numbered setup class → Soon setup soonest (with_page class ks)
   soon_page class num = soon_set class num _ (soon class num)
 
   module _ (r : Record) (live : Lives setup r ks) where
-    others : All (NotBefore (get_or soonest (class_no setup r) 0)) (filter (other_key r.key) (class_at (class_no setup r) ks).records)
+    others : AllByRecursion (NotBefore (get_or soonest (class_no setup r) 0)) (filter (other_key r.key) (class_at (class_no setup r) ks).records)
     others = all_kept_by (other_key r.key) (NotBefore (get_or soonest (class_no setup r) 0)) _ (soon (class_no setup r) live.numbered)
 
     pub soon_without : Soon setup soonest (without_record setup r ks)
@@ -113,16 +113,16 @@ last_none_at p x None true e h = let z : ◌≡◌ {A = ℕ} 0 1 = cc in absurd 
 last_none_at p x (Some y) b e h = let z : ◌≡◌ {A = ℕ} 0 1 = cc in absurd (omega arith)
 
 -- where a walk finds none, none passes
-pub last_none : (p : Record → Bool) (xs : List Record) → last p xs ≡ None → All (λ x. p x ≡ false) xs
+pub last_none : (p : Record → Bool) (xs : List Record) → last p xs ≡ None → AllByRecursion (λ x. p x ≡ false) xs
 last_none p [] h = tt
 last_none p (x ∷ xs) h = let at = last_none_at p x (last p xs) (p x) refl h in (at.1, last_none p xs at.0)
 
-none_last : (p : Record → Bool) (xs : List Record) → All (λ x. p x ≡ false) xs → last p xs ≡ None
+none_last : (p : Record → Bool) (xs : List Record) → AllByRecursion (λ x. p x ≡ false) xs → last p xs ≡ None
 none_last p [] a = refl
 none_last p (x ∷ xs) a = rw (none_last p xs a.1, a.0)
 
 -- no record is dead before its class's second
-pub none_dead : (now bound : ℕ) → now < bound → (xs : List Record) → All (NotBefore bound) xs → last (dead now) xs ≡ None
+pub none_dead : (now bound : ℕ) → now < bound → (xs : List Record) → AllByRecursion (NotBefore bound) xs → last (dead now) xs ≡ None
 none_dead now bound lt xs a = none_last (dead now) xs (All-weaker (NotBefore bound) (λ x. dead now x ≡ false) (λ x h. later_alive now bound lt x.expiry h) xs a)
 
 -- the next second serves where none is dead
@@ -130,8 +130,8 @@ pub soon_next : (setup : Setup) (ks : List Class) (soonest : List ℕ) → Soon 
 soon_next setup ks soonest soon class now lt none d num =
     ⊎_elim
     (λ e.
-    subst (λ n. All (NotBefore (get_or (set soonest class (now + 1)) n 0)) (class_at n ks).records) (sym e)
-    (subst (λ b. All (NotBefore b) (class_at class ks).records) (sym (get_or-set_same soonest class (now + 1) 0 lt))
+    subst (λ n. AllByRecursion (NotBefore (get_or (set soonest class (now + 1)) n 0)) (class_at n ks).records) (sym e)
+    (subst (λ b. AllByRecursion (NotBefore b) (class_at class ks).records) (sym (get_or-set_same soonest class (now + 1) 0 lt))
     (All-weaker (λ x. dead now x ≡ false) (NotBefore (now + 1)) (λ x h. alive_later now x.expiry h) (class_at class ks).records (last_none (dead now) (class_at class ks).records none))))
-    (λ ne. subst (λ b. All (NotBefore b) (class_at d ks).records) (sym (get_or-set_other soonest class d (now + 1) 0 ne)) (soon d num))
+    (λ ne. subst (λ b. AllByRecursion (NotBefore b) (class_at d ks).records) (sym (get_or-set_other soonest class d (now + 1) 0 ne)) (soon d num))
     (cases_eq d class)

@@ -1,5 +1,5 @@
 -- Counts and numbers stay small, and every record is accounted for. Assumes nothing.
-use Rattle.std.proofs.Common.{◌≡◌, ℕ, ◌-◌, ◌≤◌, List, length, Option, refl, ap, arith}
+use Rattle.std.proofs.Common.{◌≡◌, ℕ, ◌≤◌, List, length, Option, refl, ap, arith}
 use Rattle.model.specs.Setup.{Setup}
 use Rattle.model.specs.Records.{Record, class_no}
 use Rattle.model.specs.Store.{Store, Counts, Why, Replaced, Deleted, Flushed, Expired, Evicted, Dropped, count_left, remove, to_front, give_page, set_expiry}

@@ -1,6 +1,6 @@
 -- The store of the reference table that the rows, the page memory and the counts of the records show.
 use Rattle.std.specs.Prelude.{◌≡◌, ℕ, ◌+◌, ◌≤◌, min, List, length, Some, None, vec_len, Option, slice_index, slice_set}
-use Rattle.std.specs.List.{AllByRecursion as All}
+use Rattle.std.specs.List.{AllByRecursion}
 use Rattle.plan.specs.Plans.{plan_sizes}
 use Rattle.chained.specs.Chains.{size}
 use Rattle.slabs.specs.declared.grant.Grant.{Grant}
@@ -84,7 +84,7 @@ pub record Shows (setup : Setup) (n : ℕ) (t : RecordStore) (memory : List ℕ)
   pub cas : t.cas ≡ s.cas
   pub counts : counts_shown t.counts ≡ s.counts
   -- no record of a class is dead before the second that is kept for the class
-  pub soon : (class : ℕ) → Numbered setup class → All (NotBefore (slice_index t.soonest class)) (class_at class s.classes).records
+  pub soon : (class : ℕ) → Numbered setup class → AllByRecursion (NotBefore (slice_index t.soonest class)) (class_at class s.classes).records
   pub tame : Tame n s
 
 -- the record that is stored, not numbered yet

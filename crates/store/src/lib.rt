@@ -1,4 +1,5 @@
 //! The records of the table as the reference table has them: found, used, removed, granted, linked, flushed and counted.
+#![tactic(auto)]
 
 mod counts;
 mod figures;

@@ -1,5 +1,6 @@
 //! A store of one page under pressure: records come, are used, expire, are deleted and pushed out, and the hash table
 //! grows. A plain list goes through the same, and the two are compared at every step.
+#![tactic(auto)]
 
 ghost use Rattle.std.specs.Prelude.{◌*◌, ◌≤◌, length};
 ghost use Rattle.store.specs.Showing.{pages_of};

@@ -1,14 +1,13 @@
-use Rattle.std.proofs.Common.{◌≡◌, ℕ, ◌+◌, ◌*◌, ◌/◌, ◌<◌, ◌≤◌, cond, eqb, length, get_or, take, sym, refl, ap, ◌∙◌, ⊎_elim, arith}
+use Rattle.std.proofs.Common.{◌≡◌, ℕ, ◌+◌, ◌*◌, ◌/◌, ◌<◌, ◌≤◌, cond, eqb, get_or, take, ap, ⊎_elim, arith}
 use native.Mathlib.Bridge.{le_prop}
 use mathlib.Core.Logic.{∥∥₁_elim}
-use lib.ListN.{length-map}
 use Rattle.std.proofs.lemmas.Bool.{cases_lt}
 use Rattle.std.proofs.lemmas.Bool.Decides.{nat_tests}
 use Rattle.recency.specs.Numbers.{count}
 use Rattle.slabs.specs.Lists.{free_of, granted_of, held_of}
 use Rattle.slabs.specs.Layouts.{class_at, start, size_at}
-use Rattle.slabs.specs.Slabs.{rows_of, homes_of, layout}
-use Rattle.slabs.specs.Laws.{Apart, Inside, Stands, Shares}
+use Rattle.slabs.specs.Slabs.{homes_of, layout}
+use Rattle.slabs.specs.Laws.{Inside, Stands, Shares}
 use Rattle.slabs.proofs.Ends.{lie_apart}
 use Rattle.slabs.proofs.laws.laws_stand.Goals as goal
 

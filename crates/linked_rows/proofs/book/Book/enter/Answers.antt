@@ -1,6 +1,5 @@
 use Rattle.std.proofs.Common.{◌∷◌}
 use mathlib.Core.Logic.{∥∥₁_map}
-use Rattle.recency.specs.Numbers.{without}
 use Rattle.linked_rows.proofs.Kept.{recounted}
 use Rattle.linked_rows.proofs.book.Book.enter.Goals as goal
 

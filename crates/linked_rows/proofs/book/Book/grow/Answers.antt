@@ -1,6 +1,5 @@
 use Rattle.std.proofs.Common.{map, get_or, sym, ap, ◌∙◌}
 use mathlib.Core.Logic.{∥∥₁_map}
-use Rattle.linked_rows.specs.Books.{Sound}
 use Rattle.linked_rows.proofs.Kept.{listed_by_table, marks_by_table}
 use Rattle.linked_rows.proofs.book.Book.grow.Goals as goal
 

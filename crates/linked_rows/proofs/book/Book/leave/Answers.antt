@@ -1,4 +1,3 @@
-use Rattle.std.proofs.Common.{◌∷◌}
 use mathlib.Core.Logic.{∥∥₁_map}
 use Rattle.recency.specs.Numbers.{without}
 use Rattle.linked_rows.proofs.Kept.{recounted}

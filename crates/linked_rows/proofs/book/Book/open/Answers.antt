@@ -1,4 +1,4 @@
-use Rattle.std.proofs.Common.{map, length, sym, refl, arith}
+use Rattle.std.proofs.Common.{map, sym, refl, arith}
 use lib.ListN.{length-map}
 use Rattle.linked_rows.specs.Books.{mark}
 use Rattle.linked_rows.proofs.Marks.{cleared_more, cleared_all}

@@ -1,7 +1,6 @@
-use Rattle.std.proofs.Common.{◌≡◌, ℕ, ◌<◌, true, false, List, ◌∷◌, map, length, get_or, refl, ap, ◌∙◌, arith}
+use Rattle.std.proofs.Common.{◌<◌, true, false, ◌∷◌, map, length, get_or, refl, ◌∙◌, arith}
 use mathlib.Core.Logic.{∥∥₁_map}
 use lib.ListN.{length-map}
-use Rattle.recency.specs.Numbers.{without}
 use Rattle.linked_rows.specs.Books.{mark}
 use Rattle.linked_rows.specs.declared.entry.Entry.{Entry}
 use Rattle.linked_rows.proofs.Kept.{unchained, unlisted, even, kept_by_list, listed_by_table, marks_by_table, marks_by_list, marked_sound, marks_in}

@@ -1,4 +1,4 @@
-use Rattle.std.proofs.Common.{◌≡◌, ℕ, ◌<◌, true, false, List, ◌∷◌, map, length, get_or, refl, ap, ◌∙◌, arith}
+use Rattle.std.proofs.Common.{◌<◌, false, map, length, get_or, refl, ◌∙◌, arith}
 use mathlib.Core.Logic.{∥∥₁_map}
 use lib.ListN.{length-map}
 use Rattle.recency.specs.Numbers.{without}

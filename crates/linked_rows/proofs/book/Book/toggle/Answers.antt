@@ -1,4 +1,4 @@
-use Rattle.std.proofs.Common.{ℕ, true, false, cond, ap}
+use Rattle.std.proofs.Common.{ℕ, false, cond, ap}
 use mathlib.Core.Logic.{∥∥₁_map}
 use Rattle.std.proofs.lemmas.Bool.{true≢false, false≢true}
 use Rattle.linked_rows.specs.Books.{mark}

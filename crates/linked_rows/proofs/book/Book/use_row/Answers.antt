@@ -1,4 +1,4 @@
-use Rattle.std.proofs.Common.{ℕ, true, false, cond, eqb, ◌∷◌, sym, ap, subst, arith}
+use Rattle.std.proofs.Common.{ℕ, false, cond, eqb, ◌∷◌, sym, ap, subst, arith}
 use mathlib.Core.Logic.{∥∥₁_map}
 use Rattle.std.proofs.lemmas.Bool.{cond-true, cond-false, eq-eqb, ne_eqb}
 use Rattle.recency.specs.Numbers.{count, without}

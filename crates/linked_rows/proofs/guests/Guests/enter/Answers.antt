@@ -1,7 +1,6 @@
-use Rattle.std.proofs.Common.{◌≡◌, ℕ, ◌<◌, true, false, List, ◌∷◌, map, length, get_or, refl, arith}
+use Rattle.std.proofs.Common.{◌<◌, true, false, ◌∷◌, map, length, get_or, refl, arith}
 use mathlib.Core.Logic.{∥∥₁_map}
 use lib.ListN.{length-map}
-use Rattle.recency.specs.Numbers.{without}
 use Rattle.linked_rows.specs.Lists.{present}
 use Rattle.linked_rows.specs.declared.visitor.Visitor.{Visitor}
 use Rattle.linked_rows.proofs.Kept.{marks_in}

@@ -1,10 +1,10 @@
-use Rattle.std.proofs.Common.{◌≡◌, ◌<◌, length, get_or, sym, refl, ap, ◌∙◌, subst, arith}
+use Rattle.std.proofs.Common.{◌≡◌, ◌<◌, length, get_or, sym, ap, ◌∙◌, subst, arith}
 use mathlib.Core.Logic.{∥∥₁_map, ∥∥₁_elim, ∥∥₁_prop}
 use lib.ListN.{length-map}
 use Rattle.slabs.specs.Rows.{blank}
 use Rattle.slabs.specs.Lists.{held_of, to_front}
 use Rattle.slabs.specs.Layouts.{class_at}
-use Rattle.slabs.specs.Slabs.{Holds, Reordered, rows_of, homes_of, layout}
+use Rattle.slabs.specs.Slabs.{Reordered, rows_of, homes_of, layout}
 use Rattle.slabs.specs.Records.{Retagged, tags}
 use Rattle.records.proofs.Chaining.{within}
 use Rattle.records.proofs.Indexing.{reindexed}

@@ -1,9 +1,9 @@
-use Rattle.std.proofs.Common.{◌≡◌, ℕ, ◌+◌, ◌*◌, ◌%◌, ◌<◌, ◌≤◌, List, length, get_or, drop, sym, ap, ◌∙◌, arith}
+use Rattle.std.proofs.Common.{◌+◌, length, get_or, drop, ap, ◌∙◌, arith}
 use mathlib.Core.Logic.{∥∥₁_map}
 use Rattle.std.proofs.lemmas.List.{length-take}
 use Rattle.slabs.specs.Rows.{blank}
 use Rattle.slabs.specs.Layouts.{start}
-use Rattle.slabs.specs.Slabs.{rows_of, homes_of, layout}
+use Rattle.slabs.specs.Slabs.{rows_of, layout}
 use Rattle.slabs.specs.Records.{bytes_at, data_lens}
 use Rattle.slabs.proofs.Ends.{record_fits, chunk_inside}
 use Rattle.records.proofs.Telling.{at_column}

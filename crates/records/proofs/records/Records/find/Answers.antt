@@ -1,7 +1,6 @@
-use Rattle.std.proofs.Common.{◌≡◌, ℕ, List, vec_items, sym, ◌∙◌, subst}
+use Rattle.std.proofs.Common.{vec_items, sym, subst}
 use mathlib.Core.Logic.{∥∥₁_map}
 use Rattle.chained.specs.Chains.{Keeps}
-use Rattle.slabs.specs.Slabs.{rows_of}
 use Rattle.records.proofs.Searching.{lent_search, searched_held, searched}
 use Rattle.records.proofs.records.Records.find.Goals as goal
 

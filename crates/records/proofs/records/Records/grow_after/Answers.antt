@@ -1,6 +1,6 @@
 use mathlib.Core.Logic.{∥∥₁_map}
-use Rattle.std.proofs.Common.{◌≡◌, map, length, sym, refl, ap, ◌∙◌, subst}
-use Rattle.chained.specs.Chains.{Holds, size}
+use Rattle.std.proofs.Common.{map, sym, refl, ap, ◌∙◌}
+use Rattle.chained.specs.Chains.{size}
 use Rattle.chained.specs.Growth.{grow_after}
 use Rattle.slabs.specs.Slabs.{rows_of}
 use Rattle.chained.proofs.Sound.{holds_as}

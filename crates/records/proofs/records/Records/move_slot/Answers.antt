@@ -4,15 +4,14 @@ use lib.ListN.{length-map}
 use Rattle.std.specs.Vec.{with_items}
 use Rattle.std.proofs.lemmas.List.{with_items_is}
 use Rattle.recency.proofs.Columns.{column_of_rest}
-use Rattle.chained.specs.Chains.{Keeps, size}
+use Rattle.chained.specs.Chains.{size}
 use Rattle.chained.proofs.Sound.{holds_as}
 use Rattle.slabs.specs.Lists.{held_of}
 use Rattle.slabs.specs.Layouts.{class_at}
-use Rattle.slabs.specs.Slabs.{rows_of, homes_of, layout}
+use Rattle.slabs.specs.Slabs.{rows_of, layout}
 use Rattle.records.proofs.Chaining.{unchained, with_rows, sound_chained, homes_same, lists_same}
 use Rattle.records.proofs.Granting.{shows_same}
 use Rattle.records.proofs.Turns.{told}
-use Rattle.records.specs.Standing.{Standing}
 use Rattle.records.proofs.records.Records.move_slot.Goals as goal
 
 pub move_one-requires : goal.move_one-requires

@@ -1,4 +1,4 @@
-use Rattle.std.proofs.Common.{◌≡◌, [], map, length, vec_len, sym, refl, ap, ◌∙◌, arith}
+use Rattle.std.proofs.Common.{◌≡◌, [], map, length, vec_len, refl, arith}
 use mathlib.Core.Logic.{∥∥₁_map}
 use lib.ListN.{length-map}
 use Rattle.std.proofs.lemmas.List.{with_items_is}

@@ -1,4 +1,4 @@
-use Rattle.std.proofs.Common.{◌≡◌, cond, eqb, map, get_or, vec_items, sym, refl, ap, ◌∙◌, subst}
+use Rattle.std.proofs.Common.{cond, eqb, map, get_or, vec_items, sym, refl, ap, ◌∙◌, subst}
 use mathlib.Core.Logic.{∥∥₁_map, ∥∥₁_elim, ∥∥₁_prop}
 use Rattle.chained.specs.Chains.{Holds, size}
 use Rattle.slabs.specs.Lists.{held_of}

@@ -1,4 +1,4 @@
-use Rattle.std.proofs.Common.{◌≡◌, ℕ, ◌+◌, ◌*◌, ◌<◌, true, cond, eqb, List, map, length, get_or, set, vec_items, sym, refl, ap, ◌∙◌, subst, ⊎_elim, arith, length-set}
+use Rattle.std.proofs.Common.{◌≡◌, ℕ, ◌<◌, cond, eqb, List, map, length, get_or, set, vec_items, sym, refl, ap, ◌∙◌, subst, ⊎_elim, arith}
 use mathlib.Core.Logic.{∥∥₁_map, ∥∥₁_elim, ∥∥₁_prop}
 use lib.ListN.{length-map}
 use Rattle.std.specs.Vec.{with_items}
@@ -14,7 +14,6 @@ use Rattle.slabs.specs.Layouts.{class_at}
 use Rattle.slabs.specs.Slabs.{rows_of, homes_of, layout}
 use Rattle.records.specs.Standing.{Standing, Indexed}
 use Rattle.records.proofs.Chaining.{unchained, within, with_rows, sound_chained, homes_same, lists_same}
-use Rattle.records.specs.Showing.{ShowsRecords}
 use Rattle.records.proofs.Turns.{told}
 use Rattle.records.proofs.Leaving.{shows_left}
 use Rattle.records.proofs.records.Records.unlink.Goals as goal

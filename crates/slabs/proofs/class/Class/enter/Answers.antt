@@ -1,6 +1,4 @@
-use Rattle.std.proofs.Common.{◌≡◌, ℕ, ◌+◌, ◌∷◌, map, length, get_or, set, sym, refl, ap, ◌∙◌, subst, ap₂, rules}
-use Rattle.recency.specs.Numbers.{count}
-use Rattle.slabs.specs.Rows.{RowsRead}
+use Rattle.std.proofs.Common.{◌≡◌, ◌+◌, ◌∷◌, length, get_or, set, refl, ap, ◌∙◌, rules}
 use Rattle.slabs.specs.Classes.{place, no_list}
 use Rattle.slabs.proofs.Reading.{place_few, reads_as, written_at, written_off, homes_of_bare, rests_of_bare}
 use Rattle.slabs.proofs.class.Class.enter.Goals as goal

@@ -1,4 +1,4 @@
-use Rattle.std.proofs.Common.{◌≡◌, ℕ, List, map, length, get_or, unwrap_or, sym, refl, ap, ◌∙◌, arith}
+use Rattle.std.proofs.Common.{map, unwrap_or, refl, ap, ◌∙◌, arith}
 use lib.ListN.{length-map}
 use Rattle.plan.specs.Plans.{plan_sizes}
 use Rattle.plan.specs.Classes.{chunks_of}

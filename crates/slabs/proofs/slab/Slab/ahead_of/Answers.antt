@@ -1,8 +1,7 @@
-use Rattle.std.proofs.Common.{◌≡◌, List, ◌∷◌, ◌++◌, length, vec_items, sym, ap, subst, arith}
+use Rattle.std.proofs.Common.{◌∷◌, ◌++◌, length, sym, ap, subst, arith}
 use Rattle.slabs.specs.declared.class.Stand.TheVariants.{Held}
 use Rattle.slabs.specs.Rows.{RowsRead}
 use Rattle.slabs.specs.Classes.{list_at}
-use Rattle.slabs.specs.Lists.{held_of}
 use Rattle.slabs.specs.Layouts.{class_at}
 use Rattle.slabs.specs.Slabs.{rows_of, layout}
 use Rattle.slabs.proofs.Sounds.{row_within, class_few}

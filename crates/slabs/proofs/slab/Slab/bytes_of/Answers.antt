@@ -1,4 +1,4 @@
-use Rattle.std.proofs.Common.{ℕ, ◌+◌, ◌-◌, ◌*◌, ◌/◌, ◌%◌, ◌<◌, get_or, ap, ◌∙◌, mod-lt, mul-le-mul, arith}
+use Rattle.std.proofs.Common.{◌+◌, ◌*◌, ◌/◌, ◌%◌, get_or, ap, ◌∙◌, mod-lt, mul-le-mul, arith}
 use Rattle.slabs.specs.Slabs.{layout}
 use Rattle.slabs.specs.Records.{bytes_at}
 use Rattle.slabs.proofs.slab.Slab.bytes_of.Goals as goal

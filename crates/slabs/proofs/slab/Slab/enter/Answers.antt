@@ -1,11 +1,11 @@
-use Rattle.std.proofs.Common.{◌≡◌, ℕ, ◌<◌, List, map, length, get_or, set, vec_items, sym, refl, ap, ◌∙◌, subst, arith, rules}
+use Rattle.std.proofs.Common.{◌≡◌, length, get_or, set, vec_items, sym, ap, ◌∙◌, subst, arith, rules}
 use mathlib.Core.Logic.{∥∥₁_map}
 use lib.ListN.{length-map}
 use Rattle.std.proofs.lemmas.List.{with_items_is}
 use Rattle.slabs.specs.Rows.{RowsRead, homes, rest, rests}
-use Rattle.slabs.specs.Classes.{no_class, list_at}
+use Rattle.slabs.specs.Classes.{list_at}
 use Rattle.slabs.specs.Lists.{list_of, into, Family}
-use Rattle.slabs.proofs.Families.{entered, absent, present, list_some}
+use Rattle.slabs.proofs.Families.{entered, absent, list_some}
 use Rattle.slabs.proofs.Cuts.{cut_kept}
 use Rattle.slabs.proofs.slab.Slab.enter.Goals as goal
 

@@ -1,4 +1,4 @@
-use Rattle.std.proofs.Common.{◌≡◌, ◌+◌, ◌-◌, get_or, ap, ◌∙◌, arith}
+use Rattle.std.proofs.Common.{◌≡◌, ◌+◌, ◌-◌, ap, ◌∙◌, arith}
 use Rattle.slabs.specs.Layouts.{start}
 use Rattle.slabs.specs.Slabs.{layout}
 use Rattle.slabs.specs.Records.{bytes_at}

@@ -1,12 +1,12 @@
-use Rattle.std.proofs.Common.{◌≡◌, ℕ, ◌<◌, List, map, length, get_or, set, vec_items, sym, refl, ap, ◌∙◌, subst, arith, rules}
+use Rattle.std.proofs.Common.{◌≡◌, length, get_or, set, vec_items, sym, ap, ◌∙◌, subst, arith, rules}
 use native.Mathlib.Bridge.{le_prop}
 use mathlib.Core.Logic.{∥∥₁_map, ∥∥₁_elim}
 use lib.ListN.{length-map}
 use Rattle.std.proofs.lemmas.List.{with_items_is}
 use Rattle.slabs.specs.Rows.{RowsRead, homes, rest, rests}
-use Rattle.slabs.specs.Classes.{no_class, list_at}
+use Rattle.slabs.specs.Classes.{list_at}
 use Rattle.slabs.specs.Lists.{list_of, out_of, Family}
-use Rattle.slabs.proofs.Families.{left, absent, present, list_some, length_without}
+use Rattle.slabs.proofs.Families.{left, present, list_some, length_without}
 use Rattle.slabs.proofs.Cuts.{cut_kept}
 use Rattle.slabs.proofs.slab.Slab.leave.Goals as goal
 

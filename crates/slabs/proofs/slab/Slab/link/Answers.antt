@@ -1,12 +1,12 @@
-use Rattle.std.proofs.Common.{◌≡◌, ℕ, ◌+◌, ◌<◌, ◌≤◌, length, get_or, set, sym, refl, ap, ◌∙◌, subst, arith}
+use Rattle.std.proofs.Common.{◌≡◌, ◌+◌, ◌<◌, ◌≤◌, length, get_or, set, sym, refl, ap, ◌∙◌, subst, arith}
 use mathlib.Core.Logic.{∥∥₁_map}
 use lib.ListN.{length-map}
 use Rattle.std.proofs.lemmas.List.{get_or-set_same}
 use Rattle.slabs.specs.declared.class.Stand.TheVariants.{Granted, Held}
 use Rattle.slabs.specs.Layouts.{start, size_at, class_at}
 use Rattle.slabs.specs.Lists.{held_of}
-use Rattle.slabs.specs.Slabs.{rows_of, homes_of, layout, Shifted}
-use Rattle.slabs.specs.Records.{Written, Described}
+use Rattle.slabs.specs.Slabs.{rows_of, homes_of, layout}
+use Rattle.slabs.specs.Records.{Written}
 use Rattle.slabs.proofs.Ends.{class_is, listed_within, page_within, chunk_inside, size_of_class, chunk_there, record_fits, lie_apart}
 use Rattle.slabs.proofs.Bytes.{chunk_kept}
 use Rattle.slabs.proofs.Telling.{span_sum, key_len_there, data_len_there, sound_described, described_rests, record_kept, record_there}

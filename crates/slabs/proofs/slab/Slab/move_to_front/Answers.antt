@@ -1,9 +1,9 @@
-use Rattle.std.proofs.Common.{◌≡◌, sym, refl, ap, ◌∙◌, subst, arith}
+use Rattle.std.proofs.Common.{sym, ap, ◌∙◌, subst, arith}
 use mathlib.Core.Logic.{∥∥₁_map}
 use Rattle.slabs.specs.declared.class.Stand.TheVariants.{Held}
 use Rattle.slabs.specs.Layouts.{class_at}
 use Rattle.slabs.specs.Lists.{held_of, to_front}
-use Rattle.slabs.specs.Slabs.{layout, homes_of, Reordered}
+use Rattle.slabs.specs.Slabs.{layout, Reordered}
 use Rattle.slabs.proofs.Sounds.{some_lists, row_within, class_few, sound_front}
 use Rattle.slabs.proofs.slab.Slab.move_to_front.Goals as goal
 

@@ -1,10 +1,10 @@
-use Rattle.std.proofs.Common.{◌≡◌, ℕ, Bool, true, false, List, length, get_or, Some, sym, refl, ap, ◌∙◌, subst, arith}
+use Rattle.std.proofs.Common.{◌≡◌, ℕ, Bool, true, false, List, get_or, Some, sym, ap, ◌∙◌, subst, arith}
 use Rattle.std.proofs.lemmas.List.{get_or_default}
 use Rattle.slabs.specs.Rows.{blank}
 use Rattle.slabs.specs.Lists.{held_of}
 use Rattle.slabs.specs.Slabs.{rows_of, Lists}
 use Rattle.slabs.proofs.Ends.{listed_within}
-use Rattle.slabs.proofs.Walks.{Walked, rear_parts, walk_starts, walk_all, walk_finds, walk_goes, walk_parts, walk_holds, walk_class}
+use Rattle.slabs.proofs.Walks.{Walked, rear_parts, walk_all, walk_finds, walk_goes, walk_parts, walk_holds, walk_class}
 use Rattle.slabs.proofs.slab.Slab.rearmost_that.Goals as goal
 
 pub index-requires : goal.index-requires

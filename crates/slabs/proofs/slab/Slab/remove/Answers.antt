@@ -1,4 +1,4 @@
-use Rattle.std.proofs.Common.{◌≡◌, sym, refl, ap, ◌∙◌, subst, arith}
+use Rattle.std.proofs.Common.{sym, ap, ◌∙◌, subst, arith}
 use Rattle.slabs.specs.Lists.{held_of, free_of}
 use Rattle.slabs.specs.Slabs.{Shifted}
 use Rattle.slabs.proofs.slab.Slab.remove.Goals as goal

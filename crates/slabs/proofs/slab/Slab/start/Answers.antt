@@ -1,4 +1,4 @@
-use Rattle.std.proofs.Common.{◌≡◌, ℕ, ◌+◌, ◌*◌, ◌/◌, ◌%◌, length, get_or, sym, refl, ap, ◌∙◌, arith}
+use Rattle.std.proofs.Common.{◌+◌, ◌*◌, ◌/◌, ◌%◌, ap, arith}
 use Rattle.slabs.proofs.Ends.{chunk_inside, class_within}
 use Rattle.slabs.proofs.Placing.{size_is}
 use Rattle.slabs.proofs.slab.Slab.start.Goals as goal

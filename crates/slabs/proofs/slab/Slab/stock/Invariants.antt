@@ -1,7 +1,4 @@
-use Rattle.std.proofs.Common.{◌≡◌, ℕ, List}
-use Rattle.slabs.specs.Rows.{rests}
-use Rattle.slabs.specs.Lists.{free_of, stocked, filled}
-use Rattle.slabs.specs.Slabs.{rows_of, homes_of, layout, Lists}
+use Rattle.slabs.specs.Lists.{free_of}
 use Rattle.slabs.proofs.Stocking.{Stocked}
 use Rattle.slabs.proofs.slab.Slab.stock.Given as goal
 

@@ -1,4 +1,4 @@
-use Rattle.std.proofs.Common.{◌≡◌, ℕ, ◌*◌, ◌<◌, ◌≤◌, map, length, get_or, sym, refl, ap, ◌∙◌, zero-mul, arith}
+use Rattle.std.proofs.Common.{◌*◌, ◌≤◌, length, get_or, sym, ap, ◌∙◌, zero-mul, arith}
 use Rattle.std.proofs.lemmas.List.{get_or-map}
 use Rattle.slabs.specs.declared.class.Stand.TheVariants.{Free, Granted, Held}
 use Rattle.slabs.specs.Classes.{no_class}

@@ -1,4 +1,4 @@
-use Rattle.std.proofs.Common.{◌≡◌, ℕ, ◌<◌, length, get_or, replicate, sym, refl, ap, ◌∙◌, arith, below_more}
+use Rattle.std.proofs.Common.{length, replicate, sym, ◌∙◌, arith, below_more}
 use lib.ListN.{length-replicate}
 use Rattle.std.proofs.lemmas.List.{get_or-set_same, get_or-set_other, get_or-replicate, ext_get_or}
 use Rattle.slabs.specs.Rows.{blank}

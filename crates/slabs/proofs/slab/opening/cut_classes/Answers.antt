@@ -1,4 +1,4 @@
-use Rattle.std.proofs.Common.{◌≡◌, ℕ, ◌<◌, length, get_or, sym, refl, ◌∙◌, subst, arith, length-set, below_more}
+use Rattle.std.proofs.Common.{sym, ◌∙◌, subst, arith, length-set, below_more}
 use Rattle.std.proofs.lemmas.List.{get_or-set_same, get_or-set_other}
 use Rattle.plan.specs.Plans.{plan_sizes}
 use Rattle.slabs.specs.Classes.{no_class, Fresh}
