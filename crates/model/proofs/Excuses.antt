@@ -1,6 +1,6 @@
 -- Every reason that a call gives is true. Assumes nothing.
 use Rattle.std.proofs.Common.{◌≡◌, ℕ, max, Bool, true, false, cond, not, eqb, ltb, List, [], ◌∷◌, ◌++◌, ℤ, Some, None, Option, sym, refl, ap, ◌∙◌, subst, append_assoc}
-use Rattle.std.specs.List.{AllByRecursion as All}
+use Rattle.std.specs.List.{AllByRecursion}
 use Rattle.std.specs.Str.{bytes_eq}
 use Rattle.std.proofs.ByRecursion.{All-append}
 use Rattle.refusals.specs.declared.Refusal.{Refusal}
@@ -30,7 +30,7 @@ module _ (setup : Setup) (now : ℕ) (said : line.Reading) (reply : Reply) where
   pub record Adds (s t : Store) : Type 0 where
     pub new : List Happening
     pub more : t.story ≡ new ++ s.story
-    pub apt : All (Excused now said reply) new
+    pub apt : AllByRecursion (Excused now said reply) new
 
   pub same : (s t : Store) → t.story ≡ s.story → Adds s t
   same s t e = record { new = []; more = e; apt = tt }

@@ -1,6 +1,6 @@
 -- Which records are on which list: counts of keys, and what a search finds. Assumes nothing.
 use Rattle.std.proofs.Common.{◌≡◌, ℕ, zero, suc, ◌+◌, ◌<◌, ◌≤◌, Bool, true, false, cond, ◌⊎◌, List, [], ◌∷◌, ◌++◌, map, length, get_or, Some, None, sum_by, filter, Option, sym, refl, ap, ◌∙◌, subst, inl, inr, ⊎_elim, arith, length-append}
-use Rattle.std.specs.List.{flat_map, AllByRecursion as All}
+use Rattle.std.specs.List.{flat_map, AllByRecursion}
 use Rattle.std.specs.Str.{bytes_eq}
 use Rattle.std.proofs.lemmas.List.Elements.{filter-append}
 use Rattle.std.proofs.lemmas.Slice.Eq.{bytes_eq-Decides}
@@ -90,11 +90,11 @@ on_append (z ∷ xs) ys here = inl here
 on_append (z ∷ xs) ys (there o) = ⊎_elim (λ l. inl (there l)) (λ r. inr r) (on_append xs ys o)
 
 -- what holds of each holds of one
-pub all_on : {A : Type 0} (P : A → Type 0) {x : A} {xs : List A} → All P xs → On x xs → P x
+pub all_on : {A : Type 0} (P : A → Type 0) {x : A} {xs : List A} → AllByRecursion P xs → On x xs → P x
 all_on P a here = a.0
 all_on P a (there o) = all_on P a.1 o
 
-pub all_from_on : {A : Type 0} (P : A → Type 0) (xs : List A) → ((x : A) → On x xs → P x) → All P xs
+pub all_from_on : {A : Type 0} (P : A → Type 0) (xs : List A) → ((x : A) → On x xs → P x) → AllByRecursion P xs
 all_from_on P [] h = tt
 all_from_on P (x ∷ xs) h = (h x here, all_from_on P xs (λ y o. h y (there o)))
 

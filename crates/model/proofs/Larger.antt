@@ -1,6 +1,6 @@
 -- A larger table keeps all that a smaller one keeps. Assumes nothing.
 use Rattle.std.proofs.Common.{◌≡◌, ℕ, ◌+◌, ◌≤◌, max, true, cond, not, List, [], ◌∷◌, length, get_or, Some, None, filter, Option, sym, subst₂, arith}
-use Rattle.std.specs.List.{AllZip, AllByRecursion as All}
+use Rattle.std.specs.List.{AllZip, AllByRecursion}
 use Rattle.std.proofs.lemmas.Bool.{false≢true}
 use Rattle.policy.specs.Meaning.{Meaning}
 use Rattle.plan.specs.Classes.{chunks_of}
@@ -84,7 +84,7 @@ module _ (setup : Setup) (plan : Planned setup) (more limit : ℕ) where
 
   -- RUNS
 
-  runs : (calls : List Call) → All Plain calls → (a b : State) → Tied setup a b → AllZip Covers (answers setup calls a) (answers (with_memory more limit setup) calls b)
+  runs : (calls : List Call) → AllByRecursion Plain calls → (a b : State) → Tied setup a b → AllZip Covers (answers setup calls a) (answers (with_memory more limit setup) calls b)
   runs [] plain a b tied = tt
   runs (call ∷ calls) plain a b tied =
       let first = steps call plain.0 a b tied in (first.covers, runs calls plain.1 _ _ first.states)

@@ -1,7 +1,7 @@
 -- Nothing leaves while there is room. Assumes nothing.
 use Rattle.std.proofs.Common.{◌≡◌, ℕ, suc, ◌+◌, ◌≤◌, Bool, true, false, cond, eqb, List, [], ◌∷◌, map, length, Some, None, filter, Option, sym, refl, ap, ◌∙◌, subst, ⊎_elim, arith}
 use lib.ListN.{length-map}
-use Rattle.std.specs.List.{AllByRecursion as All}
+use Rattle.std.specs.List.{AllByRecursion}
 use Rattle.std.specs.Str.{bytes_eq}
 use Rattle.std.proofs.ByRecursion.{all_kept_by, All-weaker, kept_by_passes}
 use Rattle.std.proofs.lemmas.List.Filters.{length-filter_both}
@@ -31,13 +31,13 @@ unlike_of : (key k : Key) → unlike key k ≡ true → bytes_eq k key ≡ false
 unlike_of key k e = differs key k (not-true (bytes_eq key k) e)
 
 -- each key of a list in which a key is not differs from it
-none_among : (key : Key) (ks : List Key) → among key ks ≡ false → All (λ k. bytes_eq k key ≡ false) ks
+none_among : (key : Key) (ks : List Key) → among key ks ≡ false → AllByRecursion (λ k. bytes_eq k key ≡ false) ks
 none_among key [] e = tt
 none_among key (k ∷ ks) e =
     let both = or_parts (bytes_eq key k) (among key ks) e in (differs key k both.0, none_among key ks both.1)
 
 -- a list of different keys that all stand among others has at most as many as those have different ones
-many : (fs ys : List Key) → ((k : Key) → count (bytes_eq k) fs ≤ 1) → All (λ x. among x ys ≡ true) fs → length fs ≤ different ys
+many : (fs ys : List Key) → ((k : Key) → count (bytes_eq k) fs ≤ 1) → AllByRecursion (λ x. among x ys ≡ true) fs → length fs ≤ different ys
 many [] [] few all = omega arith
 many (x ∷ fs) [] few all = absurd (both_ways false refl all.0)
 many fs (y ∷ ys) few all = by (λ gs. many gs ys) (among y ys) refl
@@ -50,11 +50,11 @@ many fs (y ∷ ys) few all = by (λ gs. many gs ys) (among y ys) refl
     also in_rest x h =
         ⊎_elim (λ e. subst (λ k. among k ys ≡ true) (sym (key_is x y e)) in_rest) (λ ne. rest x h ne) (cases_Bool (bytes_eq x y))
 
-    others : (gs : List Key) → All (λ x. among x (y ∷ ys) ≡ true) gs → All (λ x. unlike y x ≡ true) gs → All (λ x. among x ys ≡ true) gs
+    others : (gs : List Key) → AllByRecursion (λ x. among x (y ∷ ys) ≡ true) gs → AllByRecursion (λ x. unlike y x ≡ true) gs → AllByRecursion (λ x. among x ys ≡ true) gs
     others [] h ne = tt
     others (x ∷ gs) h ne = (rest x h.0 (unlike_of y x ne.0), others gs h.1 ne.1)
 
-    by : ((gs : List Key) → ((k : Key) → count (bytes_eq k) gs ≤ 1) → All (λ x. among x ys ≡ true) gs → length gs ≤ different ys) → (b : Bool) → among y ys ≡ b → length fs ≤ cond b (different ys) (suc (different ys))
+    by : ((gs : List Key) → ((k : Key) → count (bytes_eq k) gs ≤ 1) → AllByRecursion (λ x. among x ys ≡ true) gs → length gs ≤ different ys) → (b : Bool) → among y ys ≡ b → length fs ≤ cond b (different ys) (suc (different ys))
     by rec true e = rec fs few (All-weaker (λ x. among x (y ∷ ys) ≡ true) (λ x. among x ys ≡ true) (also e) fs all)
     by rec false e =
         let gs = filter (unlike y) fs in
@@ -73,7 +73,7 @@ After us x y = among x (since y us) ≡ true
 -- each key with each that stands behind it
 abbrev Pairwise : (Key → Key → Type 0) → List Key → Type 0
 Pairwise R [] = Unit {0}
-Pairwise R (x ∷ xs) = All (R x) xs × Pairwise R xs
+Pairwise R (x ∷ xs) = AllByRecursion (R x) xs × Pairwise R xs
 
 pairwise_kept : (R : Key → Key → Type 0) (p : Key → Bool) (xs : List Key) → Pairwise R xs → Pairwise R (filter p xs)
 pairwise_kept R p [] h = tt
@@ -90,15 +90,15 @@ newer us key x y ne h = rw ne (or_right (bytes_eq x key) (among x (since y us)) 
 newest : (us : List Key) (key y : Key) → bytes_eq y key ≡ false → After (key ∷ us) key y
 newest us key y ne = rw ne (or_left (bytes_eq key key) (among key (since y us)) (same_key key))
 
-newer_all : (us : List Key) (key x : Key) (ys : List Key) → All (λ y. bytes_eq y key ≡ false) ys → All (After us x) ys → All (After (key ∷ us) x) ys
+newer_all : (us : List Key) (key x : Key) (ys : List Key) → AllByRecursion (λ y. bytes_eq y key ≡ false) ys → AllByRecursion (After us x) ys → AllByRecursion (After (key ∷ us) x) ys
 newer_all us key x [] ne h = tt
 newer_all us key x (y ∷ ys) ne h = (newer us key x y ne.0 h.0, newer_all us key x ys ne.1 h.1)
 
-newer_pairs : (us : List Key) (key : Key) (ks : List Key) → All (λ y. bytes_eq y key ≡ false) ks → Pairwise (After us) ks → Pairwise (After (key ∷ us)) ks
+newer_pairs : (us : List Key) (key : Key) (ks : List Key) → AllByRecursion (λ y. bytes_eq y key ≡ false) ks → Pairwise (After us) ks → Pairwise (After (key ∷ us)) ks
 newer_pairs us key [] ne h = tt
 newer_pairs us key (k ∷ ks) ne h = (newer_all us key k ks ne.1 h.0, newer_pairs us key ks ne.1 h.1)
 
-in_front : (us : List Key) (key : Key) (ks : List Key) → All (λ y. bytes_eq y key ≡ false) ks → Pairwise (After us) ks → Pairwise (After (key ∷ us)) (key ∷ ks)
+in_front : (us : List Key) (key : Key) (ks : List Key) → AllByRecursion (λ y. bytes_eq y key ≡ false) ks → Pairwise (After us) ks → Pairwise (After (key ∷ us)) (key ∷ ks)
 in_front us key ks ne h =
     (All-weaker (λ y. bytes_eq y key ≡ false) (After (key ∷ us) key) (newest us key) ks ne, newer_pairs us key ks ne h)
 
@@ -136,14 +136,14 @@ last_some y ys e = by (last (λ _. true) ys) e
     by (Some x) e = let z : ◌≡◌ {A = ℕ} 0 1 = cc in omega arith
 
 -- every other key of the class was used since
-before_last : (R : Key → Key → Type 0) (xs : List Record) (r : Record) → last (λ _. true) xs ≡ Some r → Pairwise R (map key_of xs) → All (λ k. unlike r.key k ≡ true → R k r.key) (map key_of xs)
+before_last : (R : Key → Key → Type 0) (xs : List Record) (r : Record) → last (λ _. true) xs ≡ Some r → Pairwise R (map key_of xs) → AllByRecursion (λ k. unlike r.key k ≡ true → R k r.key) (map key_of xs)
 before_last R [] r e h = tt
 before_last R (x ∷ []) r e h =
     let is : x ≡ r = cc in
     (λ ne. absurd (both_ways (bytes_eq r.key x.key) (not-true _ ne) (subst (λ z. bytes_eq r.key z.key ≡ true) (sym is) (same_key r.key))), tt)
 before_last R (x ∷ y ∷ ys) r e h = by (last (λ _. true) (y ∷ ys)) refl e (λ found. before_last R (y ∷ ys) r found h.1)
   where
-    by : (o : Option Record) → last (λ _. true) (y ∷ ys) ≡ o → or_else o (Some x) ≡ Some r → (last (λ _. true) (y ∷ ys) ≡ Some r → All (λ k. unlike r.key k ≡ true → R k r.key) (map key_of (y ∷ ys))) → All (λ k. unlike r.key k ≡ true → R k r.key) (map key_of (x ∷ y ∷ ys))
+    by : (o : Option Record) → last (λ _. true) (y ∷ ys) ≡ o → or_else o (Some x) ≡ Some r → (last (λ _. true) (y ∷ ys) ≡ Some r → AllByRecursion (λ k. unlike r.key k ≡ true → R k r.key) (map key_of (y ∷ ys))) → AllByRecursion (λ k. unlike r.key k ≡ true → R k r.key) (map key_of (x ∷ y ∷ ys))
     by None NoneFound e rec = absurd (last_some y ys NoneFound)
     by (Some z) found e rec =
         let on = (last_on (λ _. true) (y ∷ ys) (found ∙ e)).0 in
@@ -158,11 +158,11 @@ count_keys k (x ∷ xs) =
     count_cons (bytes_eq k) x.key (map key_of xs) ∙ ap (λ n. cond (has_key k x) 1 0 + n) (count_keys k xs) ∙ sym (count_cons (has_key k) x xs)
 
 -- what passes a filter has what the whole list has under the filter's test
-all_passed : {A : Type 0} (P : A → Type 0) (p : A → Bool) (xs : List A) → All (λ x. p x ≡ true → P x) xs → All P (filter p xs)
+all_passed : {A : Type 0} (P : A → Type 0) (p : A → Bool) (xs : List A) → AllByRecursion (λ x. p x ≡ true → P x) xs → AllByRecursion P (filter p xs)
 all_passed P p [] h = tt
 all_passed P p (x ∷ xs) h = by (p x) refl (all_passed P p xs h.1)
   where
-    by : (b : Bool) → p x ≡ b → All P (filter p xs) → All P (cond b (x ∷ filter p xs) (filter p xs))
+    by : (b : Bool) → p x ≡ b → AllByRecursion P (filter p xs) → AllByRecursion P (cond b (x ∷ filter p xs) (filter p xs))
     by true e rec = (h.0 e, rec)
     by false e rec = rec
 
@@ -182,7 +182,7 @@ module _ (setup : Setup) (s : Store) (sound : Sound setup s.classes) (f : Faithf
       let is : length xs ≡ chunks setup c (pages_told c s.story) = rw (← pages) (omega arith) in
       let pairs : Pairwise (After us) ks = subst (Pairwise (After us)) (sym keys) (recent c low s.story f.sensible) in
       let others = filter (unlike r.key) ks in
-      let each : All (λ k. After us k r.key) others = all_passed (λ k. After us k r.key) (unlike r.key) ks (before_last (After us) xs r reason.2 pairs) in
+      let each : AllByRecursion (λ k. After us k r.key) others = all_passed (λ k. After us k r.key) (unlike r.key) ks (before_last (After us) xs r reason.2 pairs) in
       let few : (k : Key) → count (bytes_eq k) others ≤ 1 =
       λ k.
       let a = count_kept (bytes_eq k) (unlike r.key) ks in

@@ -1,7 +1,7 @@
 -- What every store of a run keeps: each record is in its own class, no key is held twice, and no class is overfull. Assumes nothing.
 use Rattle.std.proofs.Common.{◌≡◌, ℕ, ◌+◌, ◌-◌, ◌<◌, ◌≤◌, Bool, true, false, cond, List, [], ◌∷◌, map, length, get_or, set, Some, None, filter, Option, sym, refl, ap, ◌∙◌, subst, ⊎_elim, add-mul, arith, length-set, get_or-set_other, get_or-set_same}
 use lib.ListN.{length-map}
-use Rattle.std.specs.List.{flat_map, AllByRecursion as All}
+use Rattle.std.specs.List.{flat_map, AllByRecursion}
 use Rattle.std.specs.Str.{bytes_eq}
 use Rattle.std.proofs.ByRecursion.{all_kept_by, All-map, All-weaker}
 use Rattle.std.proofs.lemmas.List.{get_or_past}
@@ -50,12 +50,12 @@ module _ (setup : Setup) (ks : List Class) (sound : Sound setup ks) (class : ℕ
       (sum_by-set (λ k. length (records_of k)) ks (class - 1) k bare in_range)
 
   -- a class may be changed to one whose records belong there, add no key that is held, and have their chunks
-  pub sound_set : (k : Class) → All (λ r. class_no setup r ≡ class) k.records → ((key : Key) → count (has_key key) (flat_map records_of ks) + count (has_key key) k.records ≤ 1 + count (has_key key) (class_at class ks).records) → length k.records ≤ chunks setup class k.pages → Sound setup (set ks (class - 1) k)
+  pub sound_set : (k : Class) → AllByRecursion (λ r. class_no setup r ≡ class) k.records → ((key : Key) → count (has_key key) (flat_map records_of ks) + count (has_key key) k.records ≤ 1 + count (has_key key) (class_at class ks).records) → length k.records ≤ chunks setup class k.pages → Sound setup (set ks (class - 1) k)
   sound_set k own keys fit =
       let low = num.low in
       record {
         size = length-set ks (class - 1) k ∙ sound.size;
-        homes = at_each (λ d x. All (λ r. class_no setup r ≡ d) x.records) ks k class low in_range own sound.homes;
+        homes = at_each (λ d x. AllByRecursion (λ r. class_no setup r ≡ d) x.records) ks k class low in_range own sound.homes;
         once = λ key. let c = count_set k key in let h = keys key in omega arith;
         fits = at_each (λ d x. length x.records ≤ chunks setup d x.pages) ks k class low in_range fit sound.fits;
       }
@@ -133,7 +133,7 @@ module _ (setup : Setup) (ks : List Class) (sound : Sound setup ks) where
       (omega (arith, add-mul (class_at class ks).pages 1 (chunks_of (size_at setup.sizes class))))
 
   -- the records of a class in another order, or fewer of them
-  pub sound_fewer : (r : Record) → Lives setup r ks → (rs : List Record) → All (λ x. class_no setup x ≡ class_no setup r) rs → ((key : Key) → count (has_key key) rs ≤ count (has_key key) (class_at (class_no setup r) ks).records) → length rs ≤ length (class_at (class_no setup r) ks).records → Sound setup (with_records (class_no setup r) rs ks)
+  pub sound_fewer : (r : Record) → Lives setup r ks → (rs : List Record) → AllByRecursion (λ x. class_no setup x ≡ class_no setup r) rs → ((key : Key) → count (has_key key) rs ≤ count (has_key key) (class_at (class_no setup r) ks).records) → length rs ≤ length (class_at (class_no setup r) ks).records → Sound setup (with_records (class_no setup r) rs ks)
   sound_fewer r live rs own keys short =
       let fit = sound.fits (class_no setup r) live.numbered.low in
       sound_set setup ks sound (class_no setup r) live.numbered (record { pages = (class_at (class_no setup r) ks).pages; records = rs })

@@ -1,6 +1,6 @@
 -- What is promised of every run of the reference table.
 use Rattle.std.specs.Prelude.{◌≡◌, ℕ, ◌+◌, ◌<◌, ◌≤◌, Bool, true, false, List, [], ◌∷◌, ◌++◌, map, length, None, sum_by, filter, ◌==◌}
-use Rattle.std.specs.List.{AllZip, AllByRecursion as All}
+use Rattle.std.specs.List.{AllZip, AllByRecursion}
 use Rattle.plan.specs.Sizes.{lawful, sizes_of}
 use Rattle.lines.specs.declared.Verb.{Verb}
 use Rattle.lines.specs.declared.Verb.TheVariants as verb
@@ -196,5 +196,5 @@ Plain (Idle second limit) = Unit {0}
 
 abbrev pub ALargerTableKeepsAll : Type 0
 ALargerTableKeepsAll =
-    (setup : Setup) (more limit : ℕ) (calls : List Call) → Planned setup → setup.pages ≤ more → All Plain calls →
+    (setup : Setup) (more limit : ℕ) (calls : List Call) → Planned setup → setup.pages ≤ more → AllByRecursion Plain calls →
     AllZip Covers (answers setup calls (empty setup)) (answers (with_memory more limit setup) calls (empty (with_memory more limit setup)))

@@ -1,6 +1,6 @@
 -- Who may say that a record left, and for which reason.
 use Rattle.std.specs.Prelude.{◌≡◌, ℕ, Bool, true, false, not, ◌&&◌, List, [], ◌++◌}
-use Rattle.std.specs.List.{AllByRecursion as All}
+use Rattle.std.specs.List.{AllByRecursion}
 use Rattle.std.specs.Str.{bytes_eq}
 use Rattle.lines.specs.declared.Verb.{Verb}
 use Rattle.lines.specs.declared.Verb.TheVariants as verb
@@ -68,7 +68,7 @@ Excused now said reply (Left second c r why) = (second ≡ now) × (excused said
 abbrev pub ExcusedAnswered : List ℕ → ℕ → Answer → List Happening → Type 0
 ExcusedAnswered bytes now (Refused r) new = new ≡ []
 ExcusedAnswered bytes now Done new = new ≡ []
-ExcusedAnswered bytes now (Replied reply) new = All (Excused now (reading bytes) reply) new
+ExcusedAnswered bytes now (Replied reply) new = AllByRecursion (Excused now (reading bytes) reply) new
 ExcusedAnswered bytes now (Closed n) new = new ≡ []
 
 abbrev pub ExcusedIn : Call → ℕ → Answer → List Happening → Type 0
