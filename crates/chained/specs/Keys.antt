@@ -1,4 +1,4 @@
--- Keys of rows. A key is a list of numbers: the bytes of a text, or one number. `keyOf` tells the key of a row by its
+-- Keys of rows. A key is a list of numbers: the bytes of a text, or one number. `key_of` tells the key of a row by its
 -- number and the row.
 use Rattle.std.specs.Prelude.{◌≡◌, ℕ, List, ◌≢◌, slice_index_or}
 use Rattle.recency.specs.Numbers.{count}
