@@ -39,7 +39,7 @@ impl Records {
         ensures stays { Holds self.new.slab i }
         ensures shown { (setup : Setup) (memory : List ℕ) (ks : List Class) → ShowsRecords setup self.old.slab memory ks → ShowsRecords setup self.new.slab memory (with_front setup second (record_at (layout self.old.slab) (rows_of self.old.slab) memory i) ks) }
     {
-        let tag = self.tag(i);
+        let tag = self.slab.tag(i);
         self.retag(
             i,
             Tag {
@@ -62,7 +62,7 @@ impl Records {
         ensures shown { (setup : Setup) (memory : List ℕ) (ks : List Class) → ShowsRecords setup self.old.slab memory ks → ShowsRecords setup self.new.slab memory (with_expiry setup expiry (record_at (layout self.old.slab) (rows_of self.old.slab) memory i) ks) }
         ensures told { (memory : List ℕ) → record_at (layout self.new.slab) (rows_of self.new.slab) memory i ≡ expiring expiry (record_at (layout self.old.slab) (rows_of self.old.slab) memory i) }
     {
-        let tag = self.tag(i);
+        let tag = self.slab.tag(i);
         self.retag(i, Tag { expiry, ..tag });
     }
 }

@@ -12,7 +12,7 @@ use Rattle.records.proofs.Telling.{at_second, at_column, shows_fronted}
 use Rattle.records.proofs.records.Records.bring_to_front.Goals as goal
 
 pub tag-tag-requires : goal.tag-tag-requires
-tag-tag-requires c = c.requires
+tag-tag-requires c = record { sound = ∥∥₁_map c.requires.standing (λ s. s.sound); held = c.requires.held }
 
 pub retag-requires : goal.retag-requires
 retag-requires c =
@@ -20,7 +20,7 @@ retag-requires c =
     record {
       standing = c.requires.standing;
       held = c.requires.held;
-      hash = ap (λ x. x.hash) c.tag-tag.ensures ∙ sym (at_column (λ row. row.tag.hash) rs c.args.i);
+      hash = ap (λ x. x.hash) (c.tag-tag.ensures blank.tag ∙ at_column (λ row. row.tag) rs c.args.i) ∙ sym (at_column (λ row. row.tag.hash) rs c.args.i);
     }
 
 pub move_to_front-requires : goal.move_to_front-requires
@@ -39,7 +39,7 @@ returns c =
     let new = c.move_to_front.new.self in
     let told = c.retag.ensures.retagged in
     let went = c.move_to_front.ensures.moved in
-    let tag_is : c.tag-tag.result ≡ get_or (tags (rows_of s)) i blank.tag = c.tag-tag.ensures ∙ sym (at_column (λ row. row.tag) (rows_of s) i) in
+    let tag_is : c.tag-tag.result ≡ get_or (tags (rows_of s)) i blank.tag = c.tag-tag.ensures blank.tag in
     let retagged : Retagged s u.slab i (at_second c.args.second (get_or (tags (rows_of s)) i blank.tag)) =
     subst (λ x. Retagged s u.slab i (at_second c.args.second x)) tag_is told in
     let moved : Reordered u.slab new (to_front i (held_of (class_at (layout s) i))) =

@@ -1,3 +1,4 @@
+use mathlib.Core.Logic.{∥∥₁_map}
 use Rattle.std.proofs.Common.{◌<◌, length, get_or, sym, ap, ◌∙◌, subst, arith}
 use lib.ListN.{length-map}
 use Rattle.slabs.specs.Rows.{blank}
@@ -12,7 +13,7 @@ use Rattle.records.proofs.Telling.{until, at_column, by_columns, retagged_here, 
 use Rattle.records.proofs.records.Records.set_expiry.Goals as goal
 
 pub tag-tag-requires : goal.tag-tag-requires
-tag-tag-requires c = c.requires
+tag-tag-requires c = record { sound = ∥∥₁_map c.requires.standing (λ s. s.sound); held = c.requires.held }
 
 pub retag-requires : goal.retag-requires
 retag-requires c =
@@ -20,7 +21,7 @@ retag-requires c =
     record {
       standing = c.requires.standing;
       held = c.requires.held;
-      hash = ap (λ x. x.hash) c.tag-tag.ensures ∙ sym (at_column (λ row. row.tag.hash) rs c.args.i);
+      hash = ap (λ x. x.hash) (c.tag-tag.ensures blank.tag ∙ at_column (λ row. row.tag) rs c.args.i) ∙ sym (at_column (λ row. row.tag.hash) rs c.args.i);
     }
 
 pub returns : goal.returns
@@ -30,7 +31,7 @@ returns c =
     let t = c.retag.new.self.slab in
     let told = c.retag.ensures.retagged in
     let retagged : Retagged s t i (until c.args.expiry (get_or (tags (rows_of s)) i blank.tag)) =
-    subst (λ x. Retagged s t i (until c.args.expiry x)) (c.tag-tag.ensures ∙ sym (at_column (λ row. row.tag) (rows_of s) i)) told in
+    subst (λ x. Retagged s t i (until c.args.expiry x)) (c.tag-tag.ensures blank.tag) told in
     let lt : i < length (rows_of s) = rw (length-map (rows_of s) (λ row. row.home)) at (within (homes_of s) i (rw c.requires.held (omega arith))) in
     record {
       standing = c.retag.ensures.standing;
