@@ -10,57 +10,41 @@ mod examples;
 pub use examples::{examples_stand, runs_stand};
 
 // Whatever opening is not refused has a lawful plan: the promises are of every such opening.
-pub fn openings_are_planned() -> u8
+pub fn openings_are_planned()
     ensures { OpeningsArePlanned }
-{
-    0
-}
+{}
 
 // A record leaves alive and unasked only from a full class of a table with no free page, and not before its turn.
-pub fn nothing_leaves_while_there_is_room() -> u8
+pub fn nothing_leaves_while_there_is_room()
     ensures { NothingLeavesWhileThereIsRoom }
-{
-    0
-}
+{}
 
 // Every record linked left by one of six ways or is held; no class is overfull, no page is lost, no key is held twice.
-pub fn everything_is_accounted_for() -> u8
+pub fn everything_is_accounted_for()
     ensures { EverythingIsAccountedFor }
-{
-    0
-}
+{}
 
 // What is told of records and pages is what the table holds.
-pub fn the_story_is_true() -> u8
+pub fn the_story_is_true()
     ensures { TheStoryIsTrue }
-{
-    0
-}
+{}
 
 // Every record that was ever linked is held and never left, or is no longer held and left just once.
-pub fn each_record_leaves_once() -> u8
+pub fn each_record_leaves_once()
     ensures { EachRecordLeavesOnce }
-{
-    0
-}
+{}
 
 // A call names each record that leaves in it, once, and no other; what is newly held was stored.
-pub fn a_call_tells_what_it_did() -> u8
+pub fn a_call_tells_what_it_did()
     ensures { ACallTellsWhatItDid }
-{
-    0
-}
+{}
 
 // A record is replaced, deleted, flushed or dropped only by a command that says so.
-pub fn every_reason_is_true() -> u8
+pub fn every_reason_is_true()
     ensures { EveryReasonIsTrue }
-{
-    0
-}
+{}
 
 // A larger table keeps all that a smaller one keeps.
-pub fn a_larger_table_keeps_all() -> u8
+pub fn a_larger_table_keeps_all()
     ensures { ALargerTableKeepsAll }
-{
-    0
-}
+{}
