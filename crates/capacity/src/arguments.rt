@@ -1,3 +1,4 @@
+use anyhow::{Context, ensure};
 use std::env;
 
 const USAGE: &str =
@@ -12,13 +13,8 @@ pub struct Asked {
 }
 
 fn number(word: Option<String>) -> anyhow::Result<u64> {
-    let Some(word) = word else {
-        return Err(anyhow::Error::msg(USAGE));
-    };
-    match word.as_str().parse::<u64>() {
-        Ok(number) => Ok(number),
-        Err(_) => Err(anyhow::Error::msg(USAGE)),
-    }
+    word.and_then(|word| word.as_str().parse().ok())
+        .context(USAGE)
 }
 
 pub fn read(rt: &HostRuntime) -> anyhow::Result<Asked> {
@@ -27,9 +23,7 @@ pub fn read(rt: &HostRuntime) -> anyhow::Result<Asked> {
     let first = number(words.next())?;
     let percent = number(words.next())?;
     let pages = number(words.next())?;
-    if words.next().is_some() {
-        return Err(anyhow::Error::msg(USAGE));
-    }
+    ensure!(words.next().is_none(), "{USAGE}");
     Ok(Asked {
         first,
         percent,

@@ -1,13 +1,13 @@
 // Reading the kinds of records, a line each, and a row for each line.
 use crate::columns::write_cells;
-use crate::words::wrong;
 use plan::need;
-use sizing::{Kind, Place, Tally};
+use sizing::{Kind, Tally, Unplaced};
+use std::fmt::Display;
 use std::io;
 use std::io::{BufRead, BufReader, BufWriter, Stdout, Write};
 
 // What does not count in the account.
-#[derive(Clone, Copy)]
+#[derive(Clone, Copy, Default)]
 pub struct LeftOut {
     // lines that were left out
     pub lines: u64,
@@ -17,11 +17,11 @@ pub struct LeftOut {
 
 impl LeftOut {
     // Counts a kind of record where it went nowhere.
-    fn note(&mut self, place: Place) {
-        match place {
-            Place::Class(_) => {}
-            Place::TooLarge => self.too_large = self.too_large.saturating_add(1),
-            Place::Uncountable => self.lines = self.lines.saturating_add(1),
+    fn note(&mut self, placed: Result<usize, Unplaced>) {
+        match placed {
+            Ok(_) => {}
+            Err(Unplaced::TooLarge) => self.too_large = self.too_large.saturating_add(1),
+            Err(Unplaced::Uncountable) => self.lines = self.lines.saturating_add(1),
         }
     }
 }
@@ -41,22 +41,31 @@ fn write_kind(out: &mut BufWriter<Stdout>, line: u64, kind: Kind) -> io::Result<
     )
 }
 
-fn write_row(out: &mut BufWriter<Stdout>, line: u64, kind: Kind, place: Place) -> io::Result<()> {
-    match place {
-        Place::Class(class) => {
+fn write_left_out(
+    out: &mut BufWriter<Stdout>,
+    line: u64,
+    why: impl Display + Drop,
+) -> io::Result<()> {
+    writeln!(out, "{line:>8}  left out: {why}")
+}
+
+fn write_row(
+    out: &mut BufWriter<Stdout>,
+    line: u64,
+    kind: Kind,
+    placed: Result<usize, Unplaced>,
+) -> io::Result<()> {
+    match placed {
+        Ok(class) => {
             write_kind(out, line, kind)?;
             writeln!(out, "  {class:>9}")
         }
-        Place::TooLarge => {
+        Err(Unplaced::TooLarge) => {
             write_kind(out, line, kind)?;
-            writeln!(out, "  too large")
+            let why = Unplaced::TooLarge;
+            writeln!(out, "  {why}")
         }
-        Place::Uncountable => {
-            writeln!(
-                out,
-                "{line:>8}  left out: its class would have more than 18446744073709551615 records, the most that is counted"
-            )
-        }
+        Err(Unplaced::Uncountable) => write_left_out(out, line, Unplaced::Uncountable),
     }
 }
 
@@ -70,14 +79,13 @@ fn take_line(
 ) -> io::Result<()> {
     match Kind::read(line) {
         Ok(kind) => {
-            let place = tally.add(kind);
-            left_out.note(place);
-            write_row(out, number, kind, place)
+            let placed = tally.add(kind);
+            left_out.note(placed);
+            write_row(out, number, kind, placed)
         }
         Err(fault) => {
             left_out.lines = left_out.lines.saturating_add(1);
-            let what = wrong(fault);
-            writeln!(out, "{number:>8}  left out: {what}")
+            write_left_out(out, number, fault)
         }
     }
 }
@@ -90,10 +98,7 @@ fn read_lines(
 ) -> io::Result<LeftOut> {
     let mut input = BufReader::new(rt.alloc(), rt.stdin())?;
     let mut line: Vec<u8> = Vec::new(rt.alloc());
-    let mut left_out = LeftOut {
-        lines: 0,
-        too_large: 0,
-    };
+    let mut left_out = LeftOut::default();
     for number in 1..u64::MAX {
         line.clear();
         if input.read_until(b'\n', &mut line)? == 0 {

@@ -5,7 +5,6 @@ mod arguments;
 mod columns;
 mod kinds;
 mod tables;
-mod words;
 
 use arguments::Asked;
 use plan::Plan;
@@ -13,24 +12,12 @@ use refusals::Refusal;
 use sizing::{Tally, pages_given};
 use std::io;
 use std::io::{BufWriter, Write};
-use words::rule;
 
 // The lawful plan of what was asked for. A number beyond 32 bits makes none.
 fn plan_of(asked: &Asked) -> Result<Plan, Refusal> {
-    let Ok(first) = u32::try_from(asked.first) else {
-        return Err(Refusal::Plan);
-    };
-    let Ok(percent) = u32::try_from(asked.percent) else {
-        return Err(Refusal::Plan);
-    };
+    let first = u32::try_from(asked.first).map_err(|_| Refusal::Plan)?;
+    let percent = u32::try_from(asked.percent).map_err(|_| Refusal::Plan)?;
     Plan::new(first, percent)
-}
-
-fn refused(rt: &HostRuntime, refusal: Refusal) -> anyhow::Result<anyhow::Error> {
-    let number = refusal.number();
-    let rule = rule(refusal);
-    let message = format!(in rt.alloc(); "refused with number {number}: {rule}")?;
-    Ok(anyhow::Error::msg(message))
 }
 
 // Writes the tables, and reads the kinds of records on the way.
@@ -46,14 +33,8 @@ fn write_tables(rt: &HostRuntime, asked: &Asked, plan: Plan, pages: u64) -> io::
 
 fn run(rt: &HostRuntime) -> anyhow::Result<()> {
     let asked = arguments::read(rt)?;
-    let plan = match plan_of(&asked) {
-        Ok(plan) => plan,
-        Err(refusal) => return Err(refused(rt, refusal)?),
-    };
-    let pages = match pages_given(asked.pages) {
-        Ok(pages) => pages,
-        Err(refusal) => return Err(refused(rt, refusal)?),
-    };
+    let plan = plan_of(&asked)?;
+    let pages = pages_given(asked.pages)?;
     Ok(write_tables(rt, &asked, plan, pages)?)
 }
 

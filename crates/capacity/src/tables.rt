@@ -3,7 +3,7 @@ use crate::arguments::Asked;
 use crate::columns::write_cells;
 use crate::kinds::LeftOut;
 use plan::Plan;
-use sizing::{Account, Load, Tally};
+use sizing::{Load, Shortage, Tally};
 use std::io;
 use std::io::{BufWriter, Stdout, Write};
 
@@ -16,8 +16,8 @@ pub fn write_plan(out: &mut BufWriter<Stdout>, plan: &Plan, asked: &Asked) -> io
         "The plan of first size {first} and percent {percent}: {classes} classes.\n"
     )?;
     writeln!(out, "   class  chunk size  chunks a page  left over")?;
-    for i in 0..classes {
-        write_class(out, plan, i + 1)?;
+    for class in 1..=classes {
+        write_class(out, plan, class)?;
     }
     writeln!(out, "")
 }
@@ -44,12 +44,11 @@ pub fn write_classes(out: &mut BufWriter<Stdout>, plan: &Plan, tally: &Tally) ->
         out,
         "   class               records                  chunks                 pages    filled"
     )?;
-    for i in 0..plan.classes() {
-        let class = i + 1;
-        if let Some(load) = tally.load(class) {
-            if load.records > 0 {
-                write_load(out, class, load)?;
-            }
+    for class in 1..=plan.classes() {
+        if let Some(load) = tally.load(class)
+            && load.records > 0
+        {
+            write_load(out, class, load)?;
         }
     }
     writeln!(out, "")
@@ -88,18 +87,22 @@ pub fn write_account(
     )
 }
 
-fn write_verdict(out: &mut BufWriter<Stdout>, account: Account, missing: u128) -> io::Result<()> {
+fn write_verdict(
+    out: &mut BufWriter<Stdout>,
+    account: Result<u128, Shortage>,
+    missing: u128,
+) -> io::Result<()> {
     match account {
-        Account::Holds { spare } => {
+        Ok(spare) => {
             writeln!(
                 out,
                 "The pages given hold every record above that has a class, with nothing pushed out; {spare} to spare."
             )
         }
-        Account::Short { class, lacks } => {
+        Err(shortage) => {
             writeln!(
                 out,
-                "The pages given do not suffice, {missing} are missing: class {class} is the first that is short, by {lacks}."
+                "The pages given do not suffice, {missing} are missing: {shortage}."
             )
         }
     }

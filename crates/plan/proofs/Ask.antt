@@ -1,5 +1,6 @@
 -- What is asked of a class, and the class of a need. Assumes nothing.
-use Rattle.std.proofs.Common.{◌≡◌, ℕ, zero, suc, ◌+◌, ◌-◌, ◌*◌, ◌/◌, ◌<◌, ◌≤◌, Bool, true, false, cond, ◌&&◌, leb, List, [], ◌∷◌, length, get_or, Some, None, sym, refl, ap, ◌∙◌, mul-le-mul_right, mod-lt, suc-mul, div-add-mod', arith}
+use Rattle.std.proofs.Common.{Option, MatchOption, option_map, subst, ◌≡◌, ℕ, zero, suc, ◌+◌, ◌-◌, ◌*◌, ◌/◌, ◌<◌, ◌≤◌, Bool, true, false, cond, ◌&&◌, leb, List, [], ◌∷◌, length, get_or, Some, None, sym, refl, ap, ◌∙◌, mul-le-mul_right, mod-lt, suc-mul, div-add-mod', arith}
+use Rattle.std.specs.List.{AllWithin, HoldsAt}
 use Rattle.std.proofs.lemmas.Bool.{leb-true, le-leb, lt-leb, and_parts, and_from}
 use Rattle.plan.specs.declared.plan.Plan.{Plan}
 use Rattle.plan.specs.Sizes.{sizes_of}
@@ -16,7 +17,7 @@ pub record Known (ask : ℕ → ℕ) (sizes : List ℕ) (class v : ℕ) : Type 0
 known_at : (ask : ℕ → ℕ) (sizes : List ℕ) (class v : ℕ) (b : Bool) → (leb 1 class && leb class (length sizes)) ≡ b → Some v ≡ cond b (Some (ask (size_at sizes class))) None → Known ask sizes class v
 known_at ask sizes class v true e h =
     let both = and_parts _ _ e in record { low = leb-true _ _ both.0; high = leb-true _ _ both.1; is = cc }
-known_at ask sizes class v false e h = let z : ◌≡◌ {A = ℕ} 0 1 = cc in absurd (omega arith)
+known_at ask sizes class v false e h = absurd cc
 
 pub known : (ask : ℕ → ℕ) (sizes : List ℕ) (class v : ℕ) → Some v ≡ of_class ask sizes class → Known ask sizes class v
 known ask sizes class v h = known_at ask sizes class v _ refl h
@@ -26,29 +27,14 @@ has_class sizes class low high = and_from _ _ (le-leb 1 class low) (le-leb class
 
 -- the plan does not have the class
 unknown_at : (v w : ℕ) (b : Bool) → None ≡ cond b (Some v) None → cond b (Some w) None ≡ None
-unknown_at v w true h = let z : ◌≡◌ {A = ℕ} 0 1 = cc in absurd (omega arith)
+unknown_at v w true h = absurd cc
 unknown_at v w false h = refl
 
 pub unknown : (f g : ℕ → ℕ) (sizes : List ℕ) (class : ℕ) → None ≡ of_class f sizes class → of_class g sizes class ≡ None
 unknown f g sizes class h = unknown_at (f (size_at sizes class)) (g (size_at sizes class)) _ h
 
--- the class exists, and the answer is its size
-abbrev pub Asked : List ℕ → ℕ → ℕ → Type 0
-Asked sizes class v = Known (λ s. s) sizes class v
-
-pub asked : (sizes : List ℕ) (class v : ℕ) → Some v ≡ of_class (λ s. s) sizes class → Asked sizes class v
-asked sizes class v h = known (λ s. s) sizes class v h
-
--- what is asked of a class that exists
-pub asks : (f : ℕ → ℕ) (sizes : List ℕ) (class v : ℕ) → Asked sizes class v → Some (f v) ≡ of_class f sizes class
-asks f sizes class v h =
-    rw (has_class sizes class h.low h.high) (ap (λ n. Some (f n)) h.is)
-
-pub no_class : (f : ℕ → ℕ) (sizes : List ℕ) (class : ℕ) → None ≡ of_class (λ s. s) sizes class → None ≡ of_class f sizes class
-no_class f sizes class h = sym (unknown (λ s. s) f sizes class h)
-
 -- the search for a class ended at a size that holds the need
-pub found : (need : ℕ) (sizes : List ℕ) (i : ℕ) → i < length sizes → ((k : ℕ) → k < i → get_or sizes k 0 < need) → need ≤ get_or sizes i 0 → Some (i + 1) ≡ class_of need sizes
+found : (need : ℕ) (sizes : List ℕ) (i : ℕ) → i < length sizes → ((k : ℕ) → k < i → get_or sizes k 0 < need) → need ≤ get_or sizes i 0 → Some (i + 1) ≡ class_of need sizes
 found need [] i lt before here = absurd (omega arith)
 found need (s ∷ ss) zero lt before here = rw (le-leb need s here)
 found need (s ∷ ss) (suc i) lt before here =
@@ -58,14 +44,14 @@ found need (s ∷ ss) (suc i) lt before here =
     rw (lt-leb need s first) (ap Some n ∙ ap one_more rest)
 
 -- or at none
-pub missing : (need : ℕ) (sizes : List ℕ) → ((k : ℕ) → k < length sizes → get_or sizes k 0 < need) → None ≡ class_of need sizes
+missing : (need : ℕ) (sizes : List ℕ) → ((k : ℕ) → k < length sizes → get_or sizes k 0 < need) → None ≡ class_of need sizes
 missing need [] before = refl
 missing need (s ∷ ss) before =
     let first : s < need = before 0 (omega arith) in
     rw (lt-leb need s first) (ap one_more (missing need ss (λ k h. before (suc k) (omega arith))))
 
 -- the class is the smallest that holds the need
-pub smallest : (need : ℕ) (sizes : List ℕ) (i : ℕ) → i < length sizes → ((k : ℕ) → k < i → get_or sizes k 0 < need) → need ≤ get_or sizes i 0 → Smallest need sizes (i + 1)
+smallest : (need : ℕ) (sizes : List ℕ) (i : ℕ) → i < length sizes → ((k : ℕ) → k < i → get_or sizes k 0 < need) → need ≤ get_or sizes i 0 → Smallest need sizes (i + 1)
 smallest need sizes i lt before here =
     let back : (i + 1) - 1 ≡ i = omega arith in
     record {
@@ -73,6 +59,31 @@ smallest need sizes i lt before here =
       fits = rw back here;
       first = λ other least less. before (other - 1) (omega arith);
     }
+
+-- a search for the first size that holds the need found this
+abbrev pub Searched : ℕ → List ℕ → Option ℕ → Type 0
+Searched need sizes first =
+    MatchOption first (AllWithin (λ size. size < need) sizes 0 (length sizes)) (λ i. (i < length sizes) × HoldsAt (λ size. need ≤ size) sizes i × AllWithin (λ size. size < need) sizes 0 i)
+
+-- the class of the need, in both words
+pub record Classed (need : ℕ) (sizes : List ℕ) (class : Option ℕ) : Type 0 where
+  pub value : class ≡ class_of need sizes
+  pub smallest : MatchOption class (get_or sizes (length sizes - 1) 0 < need) (λ class. Smallest need sizes class)
+
+classed_at : (need : ℕ) (sizes : List ℕ) (first : Option ℕ) → 0 < length sizes → Searched need sizes first → Classed need sizes (option_map (λ i. i + 1) first)
+classed_at need sizes None some before =
+    record {
+      value = missing need sizes (λ k lt. before k 0 (omega arith) lt);
+      smallest = before (length sizes - 1) 0 (omega arith) (omega arith);
+    }
+classed_at need sizes (Some i) some (lt, here, before) =
+    record {
+      value = found need sizes i lt (λ k less. before k 0 (omega arith) less) (here 0);
+      smallest = smallest need sizes i lt (λ k less. before k 0 (omega arith) less) (here 0);
+    }
+
+pub classed : (need : ℕ) (sizes : List ℕ) (first class : Option ℕ) → 0 < length sizes → Searched need sizes first → class ≡ option_map (λ i. i + 1) first → Classed need sizes class
+classed need sizes first class some search_is is = subst (Classed need sizes) (sym is) (classed_at need sizes first some search_is)
 
 -- a chunk ends before the next one begins
 chunk_ends : (size j k : ℕ) → j < k → j * size + size ≤ k * size
@@ -93,9 +104,22 @@ tiles size pos =
     }
 
 -- the size of a plan's class is not 0
-pub at_least : (plan : Plan) {class v : ℕ} → Asked (plan_sizes plan) class v → 0 < v
-at_least plan {class} {v} h =
+pub at_least : (plan : Plan) (class : ℕ) → 1 ≤ class → class ≤ length (plan_sizes plan) → 0 < size_at (plan_sizes plan) class
+at_least plan class low high =
     let is : plan_sizes plan ≡ sizes_of plan.first plan.percent = plan.made in
-    let high : class - 1 < length (sizes_of plan.first plan.percent) = omega (arith, h.low, h.high, ap length is) in
-    let least = least_size plan.first plan.percent plan.fair (class - 1) high in
-    omega (arith, h.is, ap (λ l. get_or l (class - 1) 0) is)
+    let inside : class - 1 < length (sizes_of plan.first plan.percent) = omega (arith, ap length is) in
+    let least = least_size plan.first plan.percent plan.fair (class - 1) inside in
+    omega (arith, ap (λ l. get_or l (class - 1) 0) is)
+
+-- nor is what a plan answers for it
+pub not_empty : (plan : Plan) (class size : ℕ) → Some size ≡ of_class (λ s. s) (plan_sizes plan) class → 0 < size
+not_empty plan class size h =
+    let k = known (λ s. s) (plan_sizes plan) class size h in
+    rw k.is (at_least plan class k.low k.high)
+
+pub tiles_class : (plan : Plan) (class size n : ℕ) → Some size ≡ of_class (λ s. s) (plan_sizes plan) class → Some (4096 / size) ≡ Some n → Tiles (size_at (plan_sizes plan) class) n
+tiles_class plan class size n h e =
+    let k = known (λ s. s) (plan_sizes plan) class size h in
+    let is : size ≡ size_at (plan_sizes plan) class = k.is in
+    let same : 4096 / size ≡ n = cc in
+    rw (sym same, is) (tiles _ (at_least plan class k.low k.high))

@@ -1,3 +1,4 @@
 pub mod Rule
+pub mod Made
 pub mod Ask
 pub mod Facts

@@ -150,7 +150,7 @@ pub refused_start : (first percent : ℕ) → fair_start first percent ≡ false
 refused_start first percent e =
     record {
       unlawful = and_left _ _ e;
-      too_long = λ fair. let z : ◌≡◌ {A = ℕ} 0 1 = cc in absurd (omega arith);
+      too_long = λ fair. absurd cc;
     }
 
 pub lawful_short : (first percent : ℕ) → fair_start first percent ≡ true → length (sizes_of first percent) ≤ 32 → lawful first percent ≡ true

@@ -21,7 +21,8 @@ pub trait Policy {
 
     ghost moving: { Self → ℕ → ℕ → Bool };
 
-    // The policy's number.
+    // The policy's number. Each policy answers its constant: one body here for all would need a law in each that
+    // `bears` is the constant, which is no shorter.
     fn own_number() -> u8
         ensures { result ≡ bears };
 

@@ -1,5 +1,5 @@
 // The policies that let a full class push records out. They differ in which uses move a record to the front.
-ghost use Rattle.std.specs.Prelude.{◌+◌, true, false, leb};
+ghost use Rattle.std.specs.Prelude.{◌+◌, true, false, nat_le};
 
 use super::Policy;
 
@@ -40,7 +40,7 @@ impl Policy for SixtySeconds {
 
     ghost evicting = { λ _. true };
 
-    ghost moving = { λ _ second moved. leb (moved + 60) second };
+    ghost moving = { λ _ second moved. nat_le (moved + 60) second };
 
     fn own_number() -> u8 {
         Self::NUMBER
@@ -51,7 +51,7 @@ impl Policy for SixtySeconds {
     }
 
     fn moves(&self, second: u32, moved: u32) -> bool {
-        second >= 60 && second - 60 >= moved
+        second.saturating_sub(moved) >= 60
     }
 }
 

@@ -1,41 +1,29 @@
--- What follows for the words of a line and the numbers that they write. Assumes nothing.
-use Rattle.std.proofs.Common.{◌≡◌, ℕ, zero, suc, ◌+◌, ◌-◌, ◌<◌, ◌≤◌, Bool, true, false, not, ◌&&◌, leb, List, [], ◌∷◌, length, get_or, take, drop, fold, sym, ap, ◌∙◌, arith}
-use mathlib.Core.Bool.{beq}
-use Rattle.std.specs.List.{prefix_len}
-use Rattle.std.proofs.lemmas.List.{drop_more, take_rest}
-use Rattle.sizing.specs.Words.{blank, in_run, past_blanks, all_digits, one_digit_more}
+-- What follows for words of digits. Assumes nothing.
+use Rattle.std.proofs.Common.{◌≡◌, ℕ, ◌^◌, ◌<◌, ◌≤◌, Bool, true, ◌&&◌, leb, List, fold, Ok, Err, Result, MatchOption, refl, arith, rules, ⊎_elim}
+use Rattle.std.specs.List.{list_all}
+use Rattle.std.specs.Str.{IsUtf8}
+use Rattle.std.specs.Result.{OkIff, result_ok}
+use Rattle.std.proofs.lemmas.Bool.Decides.{leb_tells}
+use Rattle.std.proofs.lemmas.Str.{IsUtf8-from_ascii}
+use Rattle.std.proofs.lemmas.Fmt.{IsAscii-from_digits}
+use Rattle.std.proofs.lemmas.Str.Parse.{IsNumeralModel, numerals_by_fold}
+use Rattle.std.proofs.lemmas.List.Recursion.{same_from_clauses}
+use Rattle.sizing.specs.Words.{all_digits, one_digit_more, decimal}
 
--- the run goes on where the byte is a blank just as blanks are meant
-pub runs_on : (blanks is : Bool) (byte : ℕ) → is ≡ blank byte → not (beq is blanks) ≡ false → in_run blanks byte ≡ true
-runs_on true true byte e h = sym e
-runs_on true false byte e h = let z : ◌≡◌ {A = ℕ} 0 1 = cc in absurd (omega arith)
-runs_on false true byte e h = let z : ◌≡◌ {A = ℕ} 0 1 = cc in absurd (omega arith)
-runs_on false false byte e h = ap not (sym e)
+abbrev pub is_digit : ℕ → Bool
+is_digit byte = leb 48 byte && leb byte 57
 
--- and ends where it is not
-pub run_ends : (blanks is : Bool) (byte : ℕ) → is ≡ blank byte → not (beq is blanks) ≡ true → in_run blanks byte ≡ false
-run_ends true true byte e h = let z : ◌≡◌ {A = ℕ} 0 1 = cc in absurd (omega arith)
-run_ends true false byte e h = sym e
-run_ends false true byte e h = ap not (sym e)
-run_ends false false byte e h = let z : ◌≡◌ {A = ℕ} 0 1 = cc in absurd (omega arith)
+pub digits_all : (word : List ℕ) → list_all is_digit word ≡ all_digits word
+digits_all = same_from_clauses (list_all is_digit) all_digits (λ byte rest. is_digit byte && rest) refl (λ _ _. refl) (λ _ _. refl)
 
--- the digits from one place on
-pub digits_more : (word : List ℕ) (i : ℕ) → i < length word → all_digits (drop i word) ≡ ((leb 48 (get_or word i 0) && leb (get_or word i 0) 57) && all_digits (drop (i + 1) word))
-digits_more word i lt = ap all_digits (drop_more word i 0 lt)
+-- these digits and this number are the library's
+pub own : IsNumeralModel (λ word. all_digits word ≡ true) decimal
+own = numerals_by_fold _ (search rules) (fold one_digit_more) (search rules)
 
--- more digits write no smaller number
-grows : (n : ℕ) (word : List ℕ) → n ≤ fold one_digit_more n word
-grows n [] = omega arith
-grows n (byte ∷ word) = let g = grows (one_digit_more n byte) word in omega arith
+pub digits_text : (word : List ℕ) → all_digits word ≡ true → IsUtf8 word
+digits_text word digits = IsUtf8-from_ascii word (IsAscii-from_digits word (own.to word digits))
 
-pub no_less : (n : ℕ) (word : List ℕ) (i : ℕ) → fold one_digit_more n (take i word) ≤ fold one_digit_more n word
-no_less n [] zero = omega arith
-no_less n [] (suc i) = omega arith
-no_less n (byte ∷ word) zero = grows n (byte ∷ word)
-no_less n (byte ∷ word) (suc i) = no_less (one_digit_more n byte) word i
-
--- the first word of a line, or what follows it: the part that is cut from the line without its blanks in front
-pub cut_is : (cut : ℕ → List ℕ → List ℕ) (line part : List ℕ) (start run : ℕ) → start ≡ prefix_len (in_run true) line → run ≡ prefix_len (in_run false) (take (length line - start) (drop start line)) → part ≡ cut run (take (length line - start) (drop start line)) → part ≡ cut (prefix_len (in_run false) (past_blanks line)) (past_blanks line)
-cut_is cut line part start run begins ends is =
-    let tail : take (length line - start) (drop start line) ≡ past_blanks line = take_rest line start ∙ ap (λ n. drop n line) begins in
-    is ∙ ap (cut run) tail ∙ ap (λ n. cut n (past_blanks line)) (ends ∙ ap (prefix_len (in_run false)) tail)
+-- a word that is parsed gives its number, unless that passes 64 bits
+pub parsed : {E : Type 0} (number long : ℕ) (r : Result ℕ E) → 0 < long → OkIff r ((0 < long) × (number < 2 ^ 64)) number → MatchOption (result_ok r) (2 ^ 64 ≤ number) (λ v. v ≡ number)
+parsed number long (Ok v) some h = h.1
+parsed number long (Err e) some h = ⊎_elim (λ t. t.1) (λ f. absurd (h (some, omega arith))) (leb_tells (2 ^ 64) number)

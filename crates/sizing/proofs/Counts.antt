@@ -1,8 +1,10 @@
 -- What follows for pages, chunks and classes. Assumes nothing.
-use Rattle.std.proofs.Common.{◌≡◌, ℕ, suc, ◌+◌, ◌-◌, ◌*◌, ◌<◌, ◌≤◌, length, None, unwrap_or, sym, ap, ⊎_elim, mul-le-mul_right, mod-lt, suc-mul, mul-le-mul_left, div-add-mod', arith}
+use Rattle.std.proofs.Common.{◌≡◌, ℕ, zero, suc, refl, ◌+◌, ◌-◌, ◌*◌, ◌<◌, ◌≤◌, length, None, unwrap_or, sym, ap, ⊎_elim, mul-le-mul_right, mod-lt, suc-mul, mul-le-mul_left, div-add-mod', arith}
 use Rattle.std.proofs.lemmas.Bool.Decides.{leb_tells}
 use Rattle.plan.specs.Classes.{size_at, of_class, chunks_of}
+use Rattle.plan.specs.declared.plan.Plan.{Plan}
 use Rattle.plan.specs.Plans.{plan_sizes}
+use Rattle.plan.proofs.Made.{listed}
 use Rattle.plan.proofs.Ask.{has_class, unknown}
 use Rattle.sizing.specs.declared.tally.Tally.{Tally}
 use Rattle.sizing.specs.Totals.{records_at}
@@ -42,6 +44,11 @@ pub pages_unknown : (tally : Tally) (class : ℕ) → None ≡ of_class chunks_o
 pages_unknown tally class h =
     sym (ap (λ o. unwrap_or o 0) (unknown chunks_of (λ size. pages_for (records_at tally class) (chunks_of size)) (plan_sizes tally.plan) class h))
 
--- the classes up to one more
-pub up_to_more : (tally : Tally) (i : ℕ) → pages_up_to tally (i + 1) ≡ pages_up_to tally i + pages_at tally (i + 1)
-up_to_more tally i = let e : i + 1 ≡ suc i = omega arith in rw e
+-- the classes up to one, and those before it
+pub up_to : (tally : Tally) (class : ℕ) → 1 ≤ class → pages_up_to tally class ≡ pages_up_to tally (class - 1) + pages_at tally class
+up_to tally zero low = absurd (omega arith)
+up_to tally (suc class) low = let e : suc class - 1 ≡ class = omega arith in rw e refl
+
+-- a plan has a class
+pub some_class : (plan : Plan) → 0 < length (plan_sizes plan)
+some_class plan = (listed plan).some

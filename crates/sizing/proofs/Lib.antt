@@ -1,3 +1,4 @@
 mod Bytes
+mod WordLemmas
 mod Counts
 mod Sums

@@ -4,3 +4,4 @@ pub mod Lines
 pub mod Totals
 pub mod Pages
 pub mod Given
+pub mod Texts

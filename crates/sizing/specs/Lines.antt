@@ -1,5 +1,5 @@
 -- What a line says: a kind of record, or what is wrong with it.
-use Rattle.std.specs.Prelude.{ℕ, Bool, cond, not, ◌&&◌, List, length, Ok, Err, Result, ◌==◌}
+use Rattle.std.specs.Prelude.{◌≡◌, ℕ, ◌<◌, Bool, true, cond, not, ◌&&◌, List, length, Ok, Err, Result, ◌==◌}
 use Rattle.sizing.specs.declared.kind.Kind.{Kind}
 use Rattle.sizing.specs.declared.kind.Field.{Field}
 use Rattle.sizing.specs.declared.kind.Field.TheVariants.{Key, Block, Count}
@@ -21,6 +21,14 @@ empty word = length word == 0
 abbrev pub three_words : List ℕ → Bool
 three_words line =
     not (empty (first_word (after_word (after_word line)))) && empty (first_word (after_word (after_word (after_word line))))
+
+-- the words of such a line, none of which is empty
+pub record ThreeWords (line key block count : List ℕ) : Type 0 where
+  pub three : three_words line ≡ true
+  pub first : key ≡ first_word line
+  pub second : block ≡ first_word (after_word line)
+  pub third : count ≡ first_word (after_word (after_word line))
+  pub some : (0 < length key) × (0 < length block) × (0 < length count)
 
 -- the kind that three numbers tell of, or the fault of the first that has one
 abbrev pub kind_of : Result ℕ Fault → Result ℕ Fault → Result ℕ Fault → Result Kind Fault

@@ -1,13 +1,12 @@
 -- How many pages records need, class by class and in all.
-use Rattle.std.specs.Prelude.{◌≡◌, ℕ, zero, suc, ◌+◌, ◌-◌, ◌*◌, ◌/◌, ◌<◌, ◌≤◌, cond, ◌&&◌, length, Some, None, Option, ◌==◌, nat_le}
+use Rattle.std.specs.Prelude.{◌≡◌, ℕ, zero, suc, ◌+◌, ◌-◌, ◌*◌, ◌/◌, ◌<◌, ◌≤◌, cond, ◌&&◌, length, Some, None, Option, Ok, Err, Result, ◌==◌, nat_le}
 use Rattle.std.specs.Option.{unwrap_or}
 use Rattle.plan.specs.Sizes.{page}
 use Rattle.plan.specs.Classes.{size_at, of_class, chunks_of}
 use Rattle.plan.specs.Plans.{plan_sizes}
 use Rattle.sizing.specs.declared.tally.Tally.{Tally}
 use Rattle.sizing.specs.declared.tally.Load.{Load}
-use Rattle.sizing.specs.declared.tally.Account.{Account}
-use Rattle.sizing.specs.declared.tally.Account.TheVariants.{Holds, Short}
+use Rattle.sizing.specs.declared.tally.Shortage.{Shortage}
 use Rattle.sizing.specs.Totals.{records_at, filled_at}
 
 -- so many pages of so many chunks hold the records, and no fewer do
@@ -59,8 +58,8 @@ pub record FirstShort (tally : Tally) (given class lacks : ℕ) : Type 0 where
   pub some : 1 ≤ lacks
   pub short : pages_up_to tally class ≡ given + lacks
 
--- What an account says of the pages given. Holds: all classes get their pages, and so many are left.
--- Short: the classes before this one do, and this one lacks so many.
-abbrev pub Settled : Tally → ℕ → Account → Type 0
-Settled tally given (Holds spare) = pages_up_to tally (length (plan_sizes tally.plan)) + spare ≡ given
-Settled tally given (Short class lacks) = FirstShort tally given class lacks
+-- What an account says of the pages given. Ok: all classes get their pages, and so many are left.
+-- Err: the classes before this one do, and this one lacks so many.
+abbrev pub Settled : Tally → ℕ → Result ℕ Shortage → Type 0
+Settled tally given (Ok spare) = pages_up_to tally (length (plan_sizes tally.plan)) + spare ≡ given
+Settled tally given (Err short) = FirstShort tally given short.class short.lacks

@@ -7,7 +7,7 @@ use refusals::Refusal;
 pub fn pages_given(pages: u64) -> Result<u64, Refusal>
     ensures { result ≡ given_pages pages }
 {
-    if pages >= 1 && pages <= 256 {
+    if (1..=256).contains(&pages) {
         Ok(pages)
     } else {
         Err(Refusal::Memory)

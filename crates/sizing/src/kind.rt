@@ -2,6 +2,9 @@
 ghost use Rattle.std.specs.Prelude.{◌≡◌};
 ghost use Rattle.sizing.specs.Fields.{least_of, most_of};
 
+use std::error::Error;
+use std::fmt;
+
 // Records of one shape: the bytes of their keys and of their data, and how many there are.
 #[derive(Clone, Copy)]
 pub struct Kind {
@@ -11,7 +14,7 @@ pub struct Kind {
 }
 
 // The three numbers of a line.
-#[derive(Clone, Copy)]
+#[derive(Clone, Copy, Debug, PartialEq, Eq)]
 pub enum Field {
     Key,
     Block,
@@ -19,7 +22,7 @@ pub enum Field {
 }
 
 // What is wrong with a line.
-#[derive(Clone, Copy)]
+#[derive(Clone, Copy, Debug, PartialEq, Eq)]
 pub enum Fault {
     // it is not three words
     Words,
@@ -52,3 +55,39 @@ impl Field {
         }
     }
 }
+
+impl fmt::Display for Field {
+    ghost use Rattle.std.specs.Prelude.{Some};
+    ghost use Rattle.sizing.specs.Texts.{field_text};
+
+    ghost output = { λ field. Some (field_text field) };
+
+    fn fmt<W: fmt::Write>(&self, f: &mut fmt::Formatter<W>) -> fmt::Result {
+        f.write_str(match self {
+            Field::Key => "key-bytes",
+            Field::Block => "data-bytes",
+            Field::Count => "count",
+        })
+    }
+}
+
+impl fmt::Display for Fault {
+    ghost use Rattle.std.specs.Prelude.{Some};
+    ghost use Rattle.sizing.specs.Texts.{fault_text};
+
+    ghost output = { λ fault. Some (fault_text fault) };
+
+    fn fmt<W: fmt::Write>(&self, f: &mut fmt::Formatter<W>) -> fmt::Result {
+        match self {
+            Fault::Words => f.write_str("not three numbers, key-bytes data-bytes count"),
+            Fault::NotNumber(field) => write!(f, "{field} is not a number"),
+            Fault::OutOfRange(Field::Key) => f.write_str("key-bytes is not from 1 to 250"),
+            Fault::OutOfRange(Field::Block) => f.write_str("data-bytes is not from 0 to 60000"),
+            Fault::OutOfRange(Field::Count) => {
+                f.write_str("count is not from 1 to 18446744073709551615, the most that is counted")
+            }
+        }
+    }
+}
+
+impl Error for Fault {}

@@ -8,4 +8,4 @@ mod tally;
 
 pub use given::pages_given;
 pub use kind::{Fault, Field, Kind};
-pub use tally::{Account, Load, Place, Tally};
+pub use tally::{Load, Shortage, Tally, Unplaced};

@@ -3,9 +3,7 @@ ghost use Rattle.std.specs.Prelude.{◌≡◌, ℕ, ◌<◌, length, Some, Match
 ghost use Rattle.plan.specs.Classes.{of_class, size_at, chunks_of, left_of, class_of, Tiles, Smallest};
 ghost use Rattle.plan.specs.Plans.{plan_sizes};
 
-use super::Plan;
-
-const PAGE: u32 = 4096;
+use super::{PAGE, Plan};
 
 impl Plan {
     // How many classes there are.
@@ -26,6 +24,7 @@ impl Plan {
     }
 
     // How many chunks a page gives to a class.
+    #[tactic(auto, using(crate::proofs::Ask::not_empty))]
     pub fn chunks_per_page(&self, class: usize) -> Option<u32>
         ensures value { result ≡ of_class chunks_of (plan_sizes self.now) class }
         ensures tiles { (n : ℕ) → result ≡ Some n → Tiles (size_at (plan_sizes self.now) class) n }
@@ -35,6 +34,7 @@ impl Plan {
     }
 
     // How many bytes of a page a class leaves over.
+    #[tactic(auto, using(crate::proofs::Ask::not_empty))]
     pub fn left_over(&self, class: usize) -> Option<u32>
         ensures { result ≡ of_class left_of (plan_sizes self.now) class }
     {
@@ -47,12 +47,9 @@ impl Plan {
         ensures value { result ≡ class_of need (plan_sizes self.now) }
         ensures smallest { MatchOption result (4096 < need) (λ class. Smallest need (plan_sizes self.now) class) }
     {
-        let count = self.count;
-        for i in 0..count {
-            if need <= self.sizes[i] as u64 {
-                return Some(i + 1);
-            }
-        }
-        None
+        self.sizes[..self.count]
+            .iter()
+            .position(|size| need <= u64::from(*size))
+            .map(|smaller| smaller + 1)
     }
 }

@@ -4,12 +4,9 @@ ghost use Rattle.plan.specs.Sizes.{next_size, fair_start, Refused};
 ghost use Rattle.plan.specs.Plans.{Made};
 ghost use Rattle.refusals.specs.declared.Refusal.TheVariants.{Plan as Unlawful};
 
-use super::Plan;
+use super::{MOST_CLASSES, PAGE, Plan};
 use refusals::Refusal;
 
-const MOST_CLASSES: usize = 32;
-
-const PAGE: u32 = 4096;
 // the largest size that is made by the percent
 const LARGEST: u32 = 2048;
 
@@ -23,7 +20,7 @@ fn next_size(percent: u32, size: u32) -> u32
 fn fair_start(first: u32, percent: u32) -> bool
     ensures { result ≡ fair_start first percent }
 {
-    first >= 48 && first <= 1024 && first % 8 == 0 && percent >= 110 && percent <= 200
+    (48..=1024).contains(&first) && first % 8 == 0 && (110..=200).contains(&percent)
 }
 
 impl Plan {
@@ -34,24 +31,22 @@ impl Plan {
         if !fair_start(first, percent) {
             return Err(Refusal::Plan);
         }
-        let mut sizes = [0u32; 32];
-        let mut count = 0;
+        let mut sizes = [0; MOST_CLASSES];
         let mut size = first;
-        while count < MOST_CLASSES && size <= LARGEST {
-            sizes[count] = size;
-            count += 1;
+        for (before, slot) in sizes.iter_mut().enumerate() {
+            if size > LARGEST {
+                // the last class has whole pages
+                *slot = PAGE;
+                return Ok(Plan {
+                    first,
+                    percent,
+                    count: before + 1,
+                    sizes,
+                });
+            }
+            *slot = size;
             size = next_size(percent, size);
         }
-        // the class of whole pages still has to come
-        if count == MOST_CLASSES {
-            return Err(Refusal::Plan);
-        }
-        sizes[count] = PAGE;
-        Ok(Plan {
-            first,
-            percent,
-            count: count + 1,
-            sizes,
-        })
+        Err(Refusal::Plan)
     }
 }

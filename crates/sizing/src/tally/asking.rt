@@ -3,7 +3,7 @@ ghost use Rattle.std.specs.Prelude.{◌≡◌, ◌^◌, ◌<◌, ◌≤◌, leng
 ghost use Rattle.plan.specs.Plans.{plan_sizes};
 ghost use Rattle.sizing.specs.Pages.{pages_for, Least, pages_at, ClassPages, share_of, load_of, pages_up_to, Settled};
 
-use super::{Account, Load, Tally};
+use super::{Load, Shortage, Sum, Tally};
 
 // The least number of pages of so many chunks that give a chunk to every record.
 fn pages_for(records: u64, chunks: u32) -> u128
@@ -15,15 +15,17 @@ fn pages_for(records: u64, chunks: u32) -> u128
     (records as u128 + (chunks as u128 - 1)) / chunks as u128
 }
 
-// The thousandths of that many pages that so many bytes take.
-fn share(filled: u128, pages: u128) -> u128
-    requires { (filled < 2 ^ 80) × (pages < 2 ^ 80) }
-    ensures { result ≡ share_of filled pages }
-{
-    if pages == 0 {
-        0
-    } else {
-        filled * 1000 / (pages * 4096)
+impl Sum {
+    // The thousandths of that many pages that the bytes take.
+    fn share(self, pages: u128) -> u128
+        requires { pages < 2 ^ 80 }
+        ensures { result ≡ share_of self.filled pages }
+    {
+        if pages == 0 {
+            0
+        } else {
+            self.filled * 1000 / (pages * 4096)
+        }
     }
 }
 
@@ -35,7 +37,7 @@ impl Tally {
         ensures bound { result < 2 ^ 64 }
     {
         match self.plan.chunks_per_page(class) {
-            Some(chunks) => pages_for(self.records[class - 1], chunks),
+            Some(chunks) => pages_for(self.sums[class - 1].records, chunks),
             None => 0,
         }
     }
@@ -45,44 +47,44 @@ impl Tally {
         ensures { result ≡ load_of self.now class }
     {
         let chunks = self.plan.chunks_per_page(class)?;
-        let i = class - 1;
+        let sum = self.sums[class - 1];
         let pages = self.pages(class);
         Some(Load {
-            records: self.records[i],
+            records: sum.records,
             pages,
             chunks: pages * chunks as u128,
-            share: share(self.filled[i], pages),
+            share: sum.share(pages),
         })
     }
 
     // The pages that all classes need.
+    #[tactic(auto, using(crate::proofs::Counts::some_class, crate::proofs::Counts::up_to))]
     pub fn pages_in_all(&self) -> u128
         ensures { result ≡ pages_up_to self.now (length (plan_sizes self.now.plan)) }
     {
-        let classes = self.plan.classes();
-        let mut total: u128 = 0;
-        for i in 0..classes {
-            total += self.pages(i + 1);
+        let mut total = 0;
+        for class in 1..=self.plan.classes() {
+            total += self.pages(class);
         }
         total
     }
 
-    // Hands the pages to the classes in their order, and says how far they go.
-    pub fn account(&self, given: u64) -> Account
+    // Hands the pages to the classes in their order, and says how many are left, or where they run out.
+    #[tactic(auto, using(crate::proofs::Counts::some_class, crate::proofs::Counts::up_to))]
+    pub fn account(&self, given: u64) -> Result<u128, Shortage>
         ensures { Settled self.now given result }
     {
-        let classes = self.plan.classes();
         let mut left = given as u128;
-        for i in 0..classes {
-            let pages = self.pages(i + 1);
+        for class in 1..=self.plan.classes() {
+            let pages = self.pages(class);
             if pages > left {
-                return Account::Short {
-                    class: i + 1,
+                return Err(Shortage {
+                    class,
                     lacks: pages - left,
-                };
+                });
             }
             left -= pages;
         }
-        Account::Holds { spare: left }
+        Ok(left)
     }
 }

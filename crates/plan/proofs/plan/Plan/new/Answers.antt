@@ -1,38 +1,30 @@
-use Rattle.std.proofs.Common.{◌<◌, sym, refl, ◌∙◌, arith, length-set}
-use Rattle.plan.proofs.Rule.{one_written, refused_long, finished, overfull, lists, starts_whole}
+use Rattle.std.proofs.Common.{◌≡◌, sym, refl, ◌∙◌, arith, length-set}
+use Rattle.plan.proofs.Rule.{one_written, refused_long, finished, overfull, starts_whole}
+use Rattle.plan.proofs.Made.{made_so}
 use Rattle.plan.proofs.plan.Plan.new.Goals as goal
-use Rattle.plan.proofs.plan.Plan.new.Goals.{then-loop-count-test+else-size-le-LARGEST, else-loop-count-test}
 
-pub loop-count-init : goal.loop-count-init
-loop-count-init c = (starts_whole _ _ (sym c.if-not-fair_start.ensures), refl, omega arith)
+pub loop-before-init : goal.loop-before-init
+loop-before-init c = record { all = starts_whole _ _ (sym c.if-not-fair_start.ensures); places = refl }
 
-pub loop-count-preserved : goal.loop-count-preserved
-loop-count-preserved c =
-    let i = c.loop-count.invariant in (
-      one_written _ c.loop-count.sizes _ _ _ _ i.0 i.1 c.loop-count-test.true c.if-size-le-LARGEST.true c.next_size-size.ensures,
-      length-set _ _ _ ∙ i.1,
-      omega arith,
-    )
-
-pub returns-then-count-eq-MOST_CLASSES : goal.returns-then-count-eq-MOST_CLASSES
-returns-then-count-eq-MOST_CLASSES c =
-    let i = c.loop-count.invariant in
-    let full = c.if-count-eq-MOST_CLASSES.true in
-    (refl, refused_long _ _ (overfull c.args.first c.args.percent c.loop-count.size c.loop-count.sizes (simp full at i.0) i.1))
+pub loop-before-preserved : goal.loop-before-preserved
+loop-before-preserved c =
+    let i = c.loop-before.invariant in
+    record {
+      all = one_written _ c.loop-before.slot-items _ _ _ _ i.all i.places (omega arith) (omega arith) c.next_size-size.ensures;
+      places = length-set _ _ _ ∙ i.places;
+    }
 
 pub invariant_of-result : goal.invariant_of-result
 invariant_of-result c =
-    let i = c.loop-count.invariant in
-    let large : 2048 < c.loop-count.size =
-    elim c.loop-count-test.branch [ then-loop-count-test+else-size-le-LARGEST w ↦ w.if-size-le-LARGEST.false | else-loop-count-test w ↦ absurd (omega (arith, w.loop-count-test.false)) ] in
-    let f = finished _ _ _ _ c.loop-count.sizes (sym c.if-not-fair_start.ensures) i.0 i.1 (omega arith) large in
+    let i = c.loop-before.invariant in
+    let f = finished _ _ _ _ c.loop-before.slot-items (sym c.if-not-fair_start.ensures) i.all i.places (omega arith) (omega arith) in
     record { fair = f.lawfully; few = omega arith; made = f.is }
+
+pub returns-then-size-gt-LARGEST : goal.returns-then-size-gt-LARGEST
+returns-then-size-gt-LARGEST c = made_so _
 
 pub returns : goal.returns
 returns c =
-    let i = c.loop-count.invariant in
-    let large : 2048 < c.loop-count.size =
-    elim c.loop-count-test.branch [ then-loop-count-test+else-size-le-LARGEST w ↦ w.if-size-le-LARGEST.false | else-loop-count-test w ↦ absurd (omega (arith, w.loop-count-test.false)) ] in
-    let f = finished _ _ _ _ c.loop-count.sizes (sym c.if-not-fair_start.ensures) i.0 i.1 (omega arith) large in
-    let l = lists _ _ _ f.lawfully f.is in
-    record { lawfully = f.lawfully; sizes = f.is; by_rule = l.by_rule; few = l.few; rising = l.rising; last = l.last }
+    let i = c.loop-before.invariant in
+    let full : c.loop-before.before ≡ 32 = omega arith in
+    (refl, refused_long _ _ (overfull c.args.first c.args.percent c.loop-before.size c.loop-before.slot-items (simp full at i.all) i.places))
