@@ -11,7 +11,8 @@ ghost use Rattle.sessions.specs.Rows.{session_of, session, sessions_at};
 ghost use Rattle.sessions.specs.Rosters.{Placed, Shown};
 
 use crate::roster::Roster;
-use crate::row::{ByCaller, SessionRow, note};
+use crate::row::{SessionRow, note};
+use chained::ByNumber;
 
 impl Roster {
     /// How many sessions are open.
@@ -33,7 +34,7 @@ impl Roster {
         requires { ∥ ((ids : List ℕ) × (free : List ℕ) × Placed self.now slots.now rows.now ids free) ∥₁ }
         ensures { (ids free : List ℕ) → Placed self.now slots.now rows.now ids free → MatchOption result (first (of_caller caller) (sessions_at rows.now ids) ≡ None) (λ i. (count i ids ≡ 1) × ((slice_index_or (map session_of rows.now) i (session 0 0)).caller ≡ caller)) }
     {
-        self.callers.find(slots, rows, &ByCaller, &caller)
+        self.callers.find(slots, rows, &ByNumber, &caller)
     }
 
     /// Has a free row be the session of a caller that has none, in front of the others.
