@@ -46,11 +46,11 @@ impl Book {
     }
 
     /// Has a row be the last used one, if it is held.
-    pub fn use_row(&mut self, heads: &[u32], rows: &mut [Entry], i: u32)
+    pub fn use_row(&mut self, rows: &mut [Entry], i: u32)
         requires within { i < length rows.old }
-        requires sound { ∥ ((ids : List ℕ) × Sound self.old heads.now rows.old ids) ∥₁ }
-        ensures used { (ids : List ℕ) → Sound self.old heads.now rows.old ids → Sound self.new heads.now rows.new (used i ids) }
-        ensures sound { ∥ ((ids : List ℕ) × Sound self.new heads.now rows.new ids) ∥₁ }
+        requires sound { ∥ ((heads : List ℕ) × (ids : List ℕ) × Sound self.old heads rows.old ids) ∥₁ }
+        ensures used { (heads ids : List ℕ) → Sound self.old heads rows.old ids → Sound self.new heads rows.new (used i ids) }
+        ensures sound { (heads : List ℕ) → ∥ ((ids : List ℕ) × Sound self.old heads rows.old ids) ∥₁ → ∥ ((ids : List ℕ) × Sound self.new heads rows.new ids) ∥₁ }
     {
         if rows[i as usize].held {
             self.list.move_to_front(rows, i);

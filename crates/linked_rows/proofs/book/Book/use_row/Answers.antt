@@ -16,7 +16,7 @@ blank = record { at = 0; len = 0; hash = 0; held = false; link = 0; next = 0; pr
 pub move_to_front-requires : goal.move_to_front-requires
 unfolding blank
 move_to_front-requires c =
-    record { within = c.requires.within; inside = ∥∥₁_map c.requires.sound (λ s. (s.0, s.1.listed, mark_of mark c.args.rows.now c.args.i blank s.0 1 c.requires.within s.1.held.marks (ap {B = ℕ} (λ t. cond t 1 0) c.if-rows-i.true))) }
+    record { within = c.requires.within; inside = ∥∥₁_map c.requires.sound (λ s. (s.1, s.2.listed, mark_of mark c.args.rows.now c.args.i blank s.1 1 c.requires.within s.2.held.marks (ap {B = ℕ} (λ t. cond t 1 0) c.if-rows-i.true))) }
 
 pub returns-then-rows-i : goal.returns-then-rows-i
 unfolding blank
@@ -24,25 +24,24 @@ returns-then-rows-i c =
     let i = c.args.i in
     let rows = c.args.rows.now in
     let new = c.move_to_front.new.rows in
-    let heads = c.args.heads.now in
     let book = c.args.self.now in
-    let here : (ids : List ℕ) → Sound book heads rows ids → count i ids ≡ 1 =
-    λ ids h. mark_of mark rows i blank ids 1 c.requires.within h.held.marks (ap {B = ℕ} (λ t. cond t 1 0) c.if-rows-i.true) in
-    let moved : (ids : List ℕ) → Sound book heads rows ids → Sound (record { table = book.table; list = c.move_to_front.new.self }) heads new (i ∷ without i ids) =
-    λ ids h.
+    let here : (heads ids : List ℕ) → Sound book heads rows ids → count i ids ≡ 1 =
+    λ heads ids h. mark_of mark rows i blank ids 1 c.requires.within h.held.marks (ap {B = ℕ} (λ t. cond t 1 0) c.if-rows-i.true) in
+    let moved : (heads ids : List ℕ) → Sound book heads rows ids → Sound (record { table = book.table; list = c.move_to_front.new.self }) heads new (i ∷ without i ids) =
+    λ heads ids h.
     let by_list = held_by_list book.table heads rows new ids c.move_to_front.ensures.rest h.held in
     record {
-      listed = c.move_to_front.ensures.listed ids h.listed (here ids h);
+      listed = c.move_to_front.ensures.listed ids h.listed (here heads ids h);
       held =
           record {
-            kept = recount _ _ _ _ ids (i ∷ without i ids) (count_moved i ids (here ids h)) by_list.kept;
-            marks = λ k. count_moved i ids (here ids h) k ∙ by_list.marks k;
+            kept = recount _ _ _ _ ids (i ∷ without i ids) (count_moved i ids (here heads ids h)) by_list.kept;
+            marks = λ k. count_moved i ids (here heads ids h) k ∙ by_list.marks k;
           };
     } in
     record {
-      used = λ ids h.
-          subst (λ xs. Sound (record { table = book.table; list = c.move_to_front.new.self }) heads new xs) (sym (cond-true (eqb (count i ids) 1) (i ∷ without i ids) ids (eq-eqb (count i ids) 1 (here ids h)))) (moved ids h);
-      sound = ∥∥₁_map c.requires.sound (λ s. (_, moved s.0 s.1));
+      used = λ heads ids h.
+          subst (λ xs. Sound (record { table = book.table; list = c.move_to_front.new.self }) heads new xs) (sym (cond-true (eqb (count i ids) 1) (i ∷ without i ids) ids (eq-eqb (count i ids) 1 (here heads ids h)))) (moved heads ids h);
+      sound = λ heads t. ∥∥₁_map t (λ s. (_, moved heads s.0 s.1));
     }
 
 pub returns-else-rows-i : goal.returns-else-rows-i
@@ -50,9 +49,9 @@ unfolding blank
 returns-else-rows-i c =
     let i = c.args.i in
     record {
-      used = λ ids h.
+      used = λ heads ids h.
           let away = mark_of mark c.args.rows.now c.args.i blank ids 0 c.requires.within h.held.marks (ap {B = ℕ} (λ t. cond t 1 0) c.if-rows-i.false) in
-          subst (λ xs. Sound c.args.self.now c.args.heads.now c.args.rows.now xs) (sym (cond-false (eqb (count i ids) 1) (i ∷ without i ids) ids (ne_eqb (count i ids) 1 (λ e. omega arith))))
+          subst (λ xs. Sound c.args.self.now heads c.args.rows.now xs) (sym (cond-false (eqb (count i ids) 1) (i ∷ without i ids) ids (ne_eqb (count i ids) 1 (λ e. omega arith))))
           h;
-      sound = c.requires.sound;
+      sound = λ heads t. t;
     }
