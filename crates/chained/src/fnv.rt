@@ -11,9 +11,7 @@ const PRIME: u32 = 16_777_619;
 pub fn fnv1a(bytes: &[u8]) -> u32
     ensures { result ≡ fnv bytes.now }
 {
-    let mut hash = START;
-    for byte in bytes {
-        hash = (hash ^ u32::from(*byte)).wrapping_mul(PRIME);
-    }
-    hash
+    bytes.iter().fold(START, |hash, byte| {
+        (hash ^ u32::from(*byte)).wrapping_mul(PRIME)
+    })
 }

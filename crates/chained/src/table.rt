@@ -9,7 +9,8 @@ ghost use Rattle.chained.specs.Keys.{HasKey, NewKey, NoKey, OneRowAKey};
 use crate::keys::Keyed;
 use recency::NONE;
 
-/// A row that can be in one table at a time: it keeps its key's hash, and the number of the next row of its chain.
+/// A row that can be in one table at a time: it keeps its key's hash, and the number of the next row of its chain. There
+/// is no std map or box here: rows and slots are memory that their owner hands over, and a table takes no heap.
 pub trait Chained {
     ghost link_of: { Self → ℕ };
 
@@ -47,9 +48,7 @@ impl Chains {
         ensures starts { size result ≡ start }
         ensures empty { (link hash : List ℕ) → length link ≤ none → Holds (size result) heads.new link hash [] }
     {
-        for head in heads.iter_mut() {
-            *head = NONE;
-        }
+        heads.fill(NONE);
         Chains {
             slots: 16,
             unmoved: 0,
@@ -126,6 +125,7 @@ impl Chains {
         let hash = keys.hash(key);
         let home = self.slot_of(hash) as usize;
         let mut at = heads[home];
+        // a chain is links in rows that their owner hands over, and no slice: each walk follows them
         while at != NONE {
             let row = &rows[at as usize];
             // the hashes differ far more often than not, and are at hand
@@ -183,6 +183,7 @@ impl Chains {
 }
 
 // The link of a row.
+#[tactic(auto, using(recency::proofs::Columns::column_at))]
 fn link_of<R: Chained>(rows: &[R], i: u32) -> u32
     requires { i < length rows.now }
     ensures { result ≡ slice_index_or (map R.link_of rows.now) i none }
@@ -191,6 +192,7 @@ fn link_of<R: Chained>(rows: &[R], i: u32) -> u32
 }
 
 // The hash of a row.
+#[tactic(auto, using(recency::proofs::Columns::column_at))]
 fn hash_of<R: Chained>(rows: &[R], i: u32) -> u32
     requires { i < length rows.now }
     ensures { result ≡ slice_index (map R.hash_of rows.now) i }
@@ -199,6 +201,7 @@ fn hash_of<R: Chained>(rows: &[R], i: u32) -> u32
 }
 
 // Aims a row's link, and leaves the rest of it.
+#[tactic(auto, using(recency::proofs::Columns::column_set, recency::proofs::Columns::column_kept, recency::proofs::Columns::column_of_rest))]
 fn aim<R: Chained>(rows: &mut [R], i: u32, to: u32)
     requires { i < length rows.old }
     ensures links { map R.link_of rows.new ≡ slice_set (map R.link_of rows.old) i to }

@@ -4,9 +4,9 @@
 mod book_run;
 mod words;
 
-use book_run::{ask, fill};
+use book_run::Shelf;
 use chained::fnv1a;
-use linked_rows::{Arena, Book, Entry};
+use linked_rows::{Arena, Entry};
 use std::time::Instant;
 use std::{env, io};
 use words::word;
@@ -21,15 +21,14 @@ fn main(rt: HostRuntime) -> io::Result<()> {
     let mut timed = false;
     let mut sizes: Vec<u32> = Vec::new(heap);
     for (k, arg) in env::args(&rt)?.enumerate() {
-        if arg.as_str() == "time" {
-            timed = true;
-        } else if k == 1 {
-            lookups = arg.as_str().parse::<u32>().unwrap_or(0);
-        } else if k > 1 {
-            sizes.push(arg.as_str().parse::<u32>().unwrap_or(0))?;
+        match (k, arg.as_str()) {
+            (_, "time") => timed = true,
+            (0, _) => {}
+            (1, number) => lookups = number.parse::<u32>().unwrap_or(0),
+            (_, number) => sizes.push(number.parse::<u32>().unwrap_or(0))?,
         }
     }
-    for size in sizes.iter() {
+    for size in &sizes {
         run(&rt, (*size).min(MOST), lookups, timed)?;
     }
     Ok(())
@@ -46,7 +45,11 @@ fn run(rt: &HostRuntime, size: u32, lookups: u32, timed: bool) -> io::Result<()>
         rows.push(row(i, &letters))?;
     }
     let mut heads = vec![in heap; 0u32; SLOTS]?;
-    measure(rt, &mut heads, &mut rows, &memory, lookups, timed)
+    let arena = Arena { bytes: &memory };
+    let Some(mut shelf) = Shelf::open(&mut heads, &mut rows, arena) else {
+        return Ok(());
+    };
+    measure(rt, &mut shelf, lookups, timed)
 }
 
 // A row for the key of a number.
@@ -55,35 +58,20 @@ fn row(i: u32, letters: &[u8]) -> Entry {
         at: i.wrapping_mul(16),
         len: 16,
         hash: fnv1a(letters),
-        held: false,
-        link: 0,
-        next: 0,
-        prev: 0,
+        ..Entry::default()
     }
 }
 
-fn measure(
-    rt: &HostRuntime,
-    heads: &mut [u32],
-    rows: &mut [Entry],
-    memory: &[u8],
-    lookups: u32,
-    timed: bool,
-) -> io::Result<()> {
-    if heads.len() < 16 || heads.len() > SLOTS || rows.len() > MOST as usize {
-        return Ok(());
-    }
-    let size = rows.len() as u32;
-    let arena = Arena { bytes: memory };
-    let mut book = Book::open(heads, rows);
+fn measure(rt: &HostRuntime, shelf: &mut Shelf, lookups: u32, timed: bool) -> io::Result<()> {
+    let size = shelf.size();
     let start = Instant::now(rt)?;
-    fill(&mut book, heads, rows);
+    shelf.fill();
     let filled = start.elapsed(rt)?;
     let start = Instant::now(rt)?;
-    let hits = ask(&book, heads, rows, &arena, size, 0, lookups);
+    let hits = shelf.ask(0, lookups);
     let hit = start.elapsed(rt)?;
     let start = Instant::now(rt)?;
-    let misses = ask(&book, heads, rows, &arena, size, size, lookups);
+    let misses = shelf.ask(size, lookups);
     let missed = start.elapsed(rt)?;
     println!(rt; "{size} rows: sum {hits} of those held, {misses} of others")?;
     if timed {

@@ -3,7 +3,8 @@
 ghost use Rattle.std.specs.Prelude.{ℕ, List};
 ghost use Rattle.linked_rows.specs.Lists.{Attended};
 
-use crate::tally::{Kind, Notes, Step};
+use crate::table::Table;
+use crate::{ROWS, SLOTS};
 use chained::ByNumber;
 use linked_rows::{Guests, Visitor};
 
@@ -12,41 +13,50 @@ pub fn number_of(i: u32) -> u32 {
     i.wrapping_mul(2_654_435_761)
 }
 
-// Does one step, with the table and with the simple list.
-fn take(step: Step, guests: &mut Guests, heads: &mut [u32], rows: &mut [Visitor], notes: &mut Notes)
-    requires { ∥ ((ids : List ℕ) × Attended guests.old heads.old rows.old ids) ∥₁ }
-    ensures { ∥ ((ids : List ℕ) × Attended guests.new heads.new rows.new ids) ∥₁ }
-{
-    match step {
-        Step::Toggle(i) => {
-            if (i as usize) < rows.len() {
-                let held = guests.toggle(heads, rows, i);
-                notes.toggled(i, held);
-            }
+/// Guests with the memory that they are lent.
+#[derive(Drop)]
+pub struct Numbers<'a> {
+    guests: Guests,
+    heads: &'a mut [u32],
+    rows: &'a mut [Visitor],
+    ghost sound: { ∥ ((ids : List ℕ) × Attended guests heads.now rows.now ids) ∥₁ },
+}
+
+impl<'a> Numbers<'a> {
+    /// No visitor is held, where there are neither too few slots nor too many, and not too many rows.
+    pub fn open(heads: &'a mut [u32], rows: &'a mut [Visitor]) -> Option<Numbers<'a>> {
+        if heads.len() < 16 || heads.len() > SLOTS || rows.len() > ROWS as usize {
+            return None;
         }
-        Step::Use(_) => {}
-        Step::Rest => {}
+        let guests = Guests::open(heads, rows);
+        Some(Numbers {
+            guests,
+            heads,
+            rows,
+        })
     }
 }
 
-/// Takes so many steps, and asks for a number after each: of one of `range` visitors, some of which never come.
-pub fn play(
-    kind: Kind,
-    steps: u32,
-    range: u32,
-    guests: &mut Guests,
-    heads: &mut [u32],
-    rows: &mut [Visitor],
-    notes: &mut Notes,
-)
-    requires { ∥ ((ids : List ℕ) × Attended guests.old heads.old rows.old ids) ∥₁ }
-    ensures { ∥ ((ids : List ℕ) × Attended guests.new heads.new rows.new ids) ∥₁ }
-{
-    for turn in 0..steps {
-        let step = notes.step(kind, turn, steps);
-        take(step, guests, heads, rows, notes);
-        let i = notes.draws.below(range);
-        let answer = guests.chains.find(heads, rows, &ByNumber, &number_of(i));
-        notes.answered(answer, i);
+impl<'a> Table for Numbers<'a> {
+    fn name(&self) -> &'static str {
+        "numbers"
+    }
+
+    fn toggle(&mut self, i: u32) -> Option<bool> {
+        if i as usize >= self.rows.len() {
+            return None;
+        }
+        Some(self.guests.toggle(self.heads, self.rows, i))
+    }
+
+    fn find(&self, number: u32) -> Option<u32> {
+        let key = number_of(number);
+        self.guests
+            .chains
+            .find(self.heads, self.rows, &ByNumber, &key)
+    }
+
+    fn size(&self) -> (u32, u32) {
+        self.guests.chains.size()
     }
 }

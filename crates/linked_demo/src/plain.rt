@@ -1,6 +1,7 @@
 //! The simple list that the table and the recency list are checked against.
 
 use std::alloc::{AllocFailed, Global};
+use std::slice::Iter;
 
 /// Row numbers, the one used longest ago first.
 #[derive(Drop)]
@@ -19,13 +20,12 @@ impl Plain {
         self.items.len()
     }
 
-    pub fn has(&self, i: u32) -> bool {
-        for item in self.items.iter() {
-            if *item == i {
-                return true;
-            }
-        }
-        false
+    pub fn iter(&self) -> Iter<'_, u32> {
+        self.items.iter()
+    }
+
+    pub fn contains(&self, i: u32) -> bool {
+        self.items.contains(&i)
     }
 
     pub fn add(&mut self, i: u32) -> Result<(), AllocFailed<u32>> {
@@ -33,23 +33,8 @@ impl Plain {
     }
 
     pub fn remove(&mut self, i: u32) {
-        let mut place = self.items.len();
-        for (k, item) in self.items.iter().enumerate() {
-            if *item == i {
-                place = k;
-                break;
-            }
-        }
-        if place < self.items.len() {
+        if let Some(place) = self.items.iter().position(|item| *item == i) {
             let _ = self.items.remove(place);
-        }
-    }
-
-    pub fn at(&self, k: usize) -> Option<u32> {
-        if k < self.items.len() {
-            Some(self.items[k])
-        } else {
-            None
         }
     }
 }

@@ -1,3 +1,3 @@
-pub mod Kept
-pub mod Held
 pub mod Marks
+pub mod Held
+pub mod Kept

@@ -1,3 +1,4 @@
 pub mod Texts
+pub mod Registers
 pub mod Books
 pub mod Lists

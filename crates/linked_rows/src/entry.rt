@@ -1,12 +1,15 @@
 //! A row whose key is a text.
 
+ghost use Rattle.std.specs.Prelude.{false};
 ghost use Rattle.std.proofs.Common.{rules};
+ghost use Rattle.linked_rows.specs.Books.{mark};
 
+use crate::register::Marked;
 use chained::Chained;
 use recency::Linked;
 
 /// A row that names where its key lies. It can be in a list and in a table.
-#[derive(Clone, Copy)]
+#[derive(Clone, Copy, Default)]
 pub struct Entry {
     pub at: u32,
     pub len: u32,
@@ -64,5 +67,23 @@ impl Chained for Entry {
 
     fn set_link(&mut self, to: u32) {
         self.link = to;
+    }
+}
+
+impl Marked for Entry {
+    ghost mark_of = { mark };
+
+    ghost rest_of = { λ row. record { at = row.at; len = row.len; hash = row.hash; held = false; link = 0; next = row.next; prev = row.prev } };
+
+    ghost mark_stays = { Prim.search rules };
+
+    ghost rest_stays = { Prim.search rules };
+
+    fn is_held(&self) -> bool {
+        self.held
+    }
+
+    fn set_held(&mut self, held: bool) {
+        self.held = held;
     }
 }

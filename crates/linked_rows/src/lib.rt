@@ -5,11 +5,11 @@
 mod arena;
 mod book;
 mod entry;
-mod guests;
+mod register;
 mod visitor;
 
 pub use arena::{Arena, Text};
 pub use book::Book;
 pub use entry::Entry;
-pub use guests::Guests;
-pub use visitor::Visitor;
+pub use register::{Marked, Register};
+pub use visitor::{Guests, Visitor};

@@ -1,11 +1,14 @@
 //! A row whose key is a number.
 
+ghost use Rattle.std.specs.Prelude.{false};
 ghost use Rattle.std.proofs.Common.{rules};
+ghost use Rattle.linked_rows.specs.Lists.{present};
 
+use crate::register::{Marked, Register};
 use chained::{Chained, Numbered};
 
 /// A row that has its key in itself.
-#[derive(Clone, Copy)]
+#[derive(Clone, Copy, Default)]
 pub struct Visitor {
     pub number: u32,
     pub held: bool,
@@ -43,3 +46,24 @@ impl Chained for Visitor {
         self.link = to;
     }
 }
+
+impl Marked for Visitor {
+    ghost mark_of = { present };
+
+    ghost rest_of = { λ row. record { number = row.number; held = false; link = 0 } };
+
+    ghost mark_stays = { Prim.search rules };
+
+    ghost rest_stays = { Prim.search rules };
+
+    fn is_held(&self) -> bool {
+        self.held
+    }
+
+    fn set_held(&mut self, held: bool) {
+        self.held = held;
+    }
+}
+
+/// The visitors that are held, in a table by their numbers.
+pub type Guests = Register;

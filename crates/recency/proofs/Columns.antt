@@ -15,6 +15,10 @@ module _ {R X : Type 0} (f : R → X) (rows : List R) (i : ℕ) where
       ∙ ap (λ x. set (map f rows) i x) (sym (get_or-map f rows i d (f d) h))
       ∙ set-get_or (map f rows) i (f d)
 
+  -- what a row has here, read in the column
+  pub column_at : (row : R) (d : X) → i < length rows → row ≡ get_or rows i row → f row ≡ get_or (map f rows) i d
+  column_at row d h e = ap f e ∙ sym (get_or-map f rows i row d h)
+
   -- no row is there
   pub column_past : (v : X) → length rows ≤ i → map f rows ≡ set (map f rows) i v
   column_past v h = sym (set_past (map f rows) i v (simp length-map h))

@@ -6,10 +6,12 @@ ghost use Rattle.std.specs.Prelude.{◌≡◌, ℕ, ◌+◌, ◌<◌, ◌≤◌,
 ghost use Rattle.recency.specs.Numbers.{none, count, without, Apart};
 ghost use Rattle.recency.specs.Lists.{Listed, Reads, foremost, rearmost};
 
-/// The number that stands for no row.
+/// The number that stands for no row. Rows are memory that their owner hands over: a link takes four bytes of each, and
+/// an `Option<u32>` would take eight.
 pub const NONE: u32 = u32::MAX;
 
-/// A row that can be in one list at a time: it holds the numbers of its neighbours.
+/// A row that can be in one list at a time: it holds the numbers of its neighbours, and no boxes, since a list has no
+/// heap of its own.
 pub trait Linked {
     ghost next_of: { Self → ℕ };
 
@@ -45,6 +47,7 @@ pub struct RecencyList {
 
 impl RecencyList {
     // Has the row `at` name `to` as its next one. What comes next at NONE is the front of the list.
+    #[tactic(auto, using(crate::proofs::Columns::column_set, crate::proofs::Columns::column_kept))]
     fn aim_next<R: Linked>(&mut self, rows: &mut [R], at: u32, to: u32)
         requires few { length rows.old ≤ none }
         requires within { (at ≢ none) → at < length rows.old }
@@ -62,6 +65,8 @@ impl RecencyList {
     }
 
     // Has the row `at` name `to` as its previous one. What comes before NONE is the back of the list.
+    // It mirrors `aim_next`: one function for both sides would test the side here and in each clause, which is no plainer.
+    #[tactic(auto, using(crate::proofs::Columns::column_set, crate::proofs::Columns::column_kept))]
     fn aim_prev<R: Linked>(&mut self, rows: &mut [R], at: u32, to: u32)
         requires few { length rows.old ≤ none }
         requires within { (at ≢ none) → at < length rows.old }
@@ -177,7 +182,8 @@ pub fn ahead_of<R: Linked>(rows: &[R], i: u32) -> Option<u32>
     row_at(ahead)
 }
 
-/// The row behind a row of a list, towards the back, if there is one.
+/// The row behind a row of a list, towards the back, if there is one. The two directions have names of their own, as the
+/// two ends have: with a parameter for the side each clause would hold a case for each.
 pub fn behind<R: Linked>(rows: &[R], i: u32) -> Option<u32>
     requires { i < length rows.now }
     ensures { (list : RecencyList) (a b : List ℕ) → Reads R.next_of R.prev_of list rows.now (a ++ i ∷ b) → result ≡ foremost b }

@@ -3,7 +3,6 @@
 mod moves;
 mod opening;
 mod steps;
-mod sweep;
 
 use chained::Chains;
 use recency::RecencyList;
@@ -11,8 +10,8 @@ use recency::RecencyList;
 /// The open sessions in a list and, by their callers, in a table; a list of the free rows; how many are open.
 #[derive(Clone, Copy)]
 pub struct Roster {
-    open: RecencyList,
-    free: RecencyList,
-    callers: Chains,
-    count: u32,
+    pub(crate) open: RecencyList,
+    pub(crate) free: RecencyList,
+    pub(crate) callers: Chains,
+    pub(crate) count: u32,
 }

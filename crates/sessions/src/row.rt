@@ -1,10 +1,10 @@
 //! One session's row, which is in a list of rows and, while its session is open, in the table of callers.
 
-ghost use Rattle.std.specs.Prelude.{◌≡◌, ◌<◌, [], ◌∷◌, map, length, slice_index, slice_index_or, slice_set};
+ghost use Rattle.std.specs.Prelude.{◌≡◌, ◌<◌, map, length, slice_index_or, slice_set};
 ghost use Rattle.sessions.specs.Rows.{session_of, unlisted, unchained, unsaid, session};
 ghost use Rattle.std.proofs.Common.{rules};
 
-use chained::{Chained, Keyed};
+use chained::{Chained, Numbered};
 use recency::Linked;
 
 /// A session's caller and the second at which it was served last, and the row's neighbours.
@@ -43,6 +43,14 @@ impl Linked for SessionRow {
     }
 }
 
+impl Numbered for SessionRow {
+    ghost number_of = { λ row. row.caller };
+
+    fn number(&self) -> u32 {
+        self.caller
+    }
+}
+
 impl Chained for SessionRow {
     ghost link_of = { λ row. row.link };
     // a caller's number is its own hash
@@ -64,26 +72,6 @@ impl Chained for SessionRow {
 
     fn set_link(&mut self, to: u32) {
         self.link = to;
-    }
-}
-
-/// Rows are asked for by their callers.
-#[derive(Clone, Copy)]
-pub struct ByCaller;
-
-impl Keyed<SessionRow, u32> for ByCaller {
-    ghost key_of = { λ _ _ row. row.caller ∷ [] };
-
-    ghost wanted = { λ caller. caller ∷ [] };
-
-    ghost hashed = { λ key. slice_index key 0 };
-
-    fn hash(&self, key: &u32) -> u32 {
-        *key
-    }
-
-    fn has_key(&self, _i: u32, row: &SessionRow, key: &u32) -> bool {
-        row.caller == *key
     }
 }
 

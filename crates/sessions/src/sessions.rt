@@ -5,6 +5,7 @@ ghost use Rattle.model.specs.Calls.{Session};
 ghost use Rattle.sessions.specs.Rosters.{Shown};
 
 mod calls;
+mod sweep;
 
 use crate::roster::Roster;
 use crate::row::SessionRow;

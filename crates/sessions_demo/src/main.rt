@@ -3,21 +3,24 @@
 
 use refusals::Refusal;
 use sessions::{SessionRow, Sessions};
+use std::fmt::{self, Display, Formatter, Write};
 
 // The caller numbers of the day: eight in a row share a slot while there are few slots.
 fn caller(k: u16) -> u32 {
     u32::from(k) * 4096 + u32::from(k / 8)
 }
 
-fn say_admitted(rt: &HostRuntime, answer: Result<(), Refusal>) -> anyhow::Result<()> {
-    match answer {
-        Ok(()) => println!(rt; "admitted")?,
-        Err(refusal) => {
-            let number = refusal.number();
-            println!(rt; "refused with number {number}")?;
+// How an admission went, as it is printed.
+#[derive(Drop)]
+struct Admission(Result<(), Refusal>);
+
+impl Display for Admission {
+    fn fmt<W: Write>(&self, f: &mut Formatter<W>) -> fmt::Result {
+        match &self.0 {
+            Ok(()) => write!(f, "admitted"),
+            Err(refusal) => write!(f, "refused with number {}", refusal.number()),
         }
     }
-    Ok(())
 }
 
 fn say_open(rt: &HostRuntime, sessions: &Sessions) -> anyhow::Result<()> {
@@ -36,9 +39,8 @@ fn say_open(rt: &HostRuntime, sessions: &Sessions) -> anyhow::Result<()> {
 fn fill(rt: &HostRuntime, sessions: &mut Sessions) -> anyhow::Result<()> {
     for k in 0..64 {
         let answer = sessions.admit(caller(k), 10 + u32::from(k));
-        if let Err(refusal) = answer {
-            let number = refusal.number();
-            println!(rt; "{k} refused with number {number}")?;
+        if answer.is_err() {
+            println!(rt; "{k} {}", Admission(answer))?;
         }
         sessions.move_slot();
     }
@@ -46,9 +48,9 @@ fn fill(rt: &HostRuntime, sessions: &mut Sessions) -> anyhow::Result<()> {
 }
 
 fn refuse(rt: &HostRuntime, sessions: &mut Sessions) -> anyhow::Result<()> {
-    say_admitted(rt, sessions.admit(caller(64), 75))?;
-    say_admitted(rt, sessions.admit(caller(7), 75))?;
-    say_admitted(rt, sessions.admit(4_194_304, 75))?;
+    println!(rt; "{}", Admission(sessions.admit(caller(64), 75)))?;
+    println!(rt; "{}", Admission(sessions.admit(caller(7), 75)))?;
+    println!(rt; "{}", Admission(sessions.admit(4_194_304, 75)))?;
     say_open(rt, sessions)
 }
 
@@ -62,7 +64,7 @@ fn serve_and_close(rt: &HostRuntime, sessions: &mut Sessions) -> anyhow::Result<
         println!(rt; "close {k}: {open}")?;
         sessions.move_slot();
     }
-    say_admitted(rt, sessions.admit(4_194_303, 81))?;
+    println!(rt; "{}", Admission(sessions.admit(4_194_303, 81)))?;
     say_open(rt, sessions)
 }
 
@@ -90,7 +92,7 @@ fn run(rt: &HostRuntime) -> anyhow::Result<()> {
     sweep(rt, &mut sessions, 100, 80)?;
     sweep(rt, &mut sessions, 100, 80)?;
     sweep(rt, &mut sessions, 101, 21)?;
-    say_admitted(rt, sessions.admit(caller(2), 4_294_967_295))?;
+    println!(rt; "{}", Admission(sessions.admit(caller(2), 4_294_967_295)))?;
     // this second and the limit together are past 32 bits
     sweep(rt, &mut sessions, 4_294_967_295, 1)?;
     sweep(rt, &mut sessions, 4_294_967_295, 0)

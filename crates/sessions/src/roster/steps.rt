@@ -1,41 +1,18 @@
 //! What is done with one session: found, entered, renewed, left.
 
-ghost use Rattle.std.specs.Prelude.{◌≡◌, ℕ, List, ◌∷◌, map, length, None, MatchOption, slice_index_or};
+ghost use Rattle.std.specs.Prelude.{◌≡◌, ℕ, List, ◌∷◌, map, length, None, slice_index_or};
 ghost use Rattle.recency.specs.Numbers.{count, without};
-ghost use Rattle.recency.specs.Lists.{foremost};
 ghost use Rattle.chained.specs.Chains.{size};
-ghost use Rattle.chained.specs.Growth.{grow_after, move_one};
-ghost use Rattle.model.specs.Calls.{Session, of_caller, served};
+ghost use Rattle.chained.specs.Growth.{grow_after};
+ghost use Rattle.model.specs.Calls.{of_caller, served};
 ghost use Rattle.model.specs.Store.{first};
 ghost use Rattle.sessions.specs.Rows.{session_of, session, sessions_at};
 ghost use Rattle.sessions.specs.Rosters.{Placed, Shown};
 
 use crate::roster::Roster;
-use crate::row::{ByCaller, SessionRow, note};
+use crate::row::{SessionRow, note};
 
 impl Roster {
-    /// How many sessions are open.
-    pub fn count(&self) -> u32
-        ensures { result ≡ self.now.count }
-    {
-        self.count
-    }
-
-    /// A free row, if there is one.
-    pub fn spare_row(&self) -> Option<u32>
-        ensures { (slots ids free : List ℕ) (rows : List SessionRow) → Placed self.now slots rows ids free → result ≡ foremost free }
-    {
-        self.free.front()
-    }
-
-    /// The row of a caller's open session, if it has one.
-    pub fn find(&self, slots: &[u32], rows: &[SessionRow], caller: u32) -> Option<u32>
-        requires { ∥ ((ids : List ℕ) × (free : List ℕ) × Placed self.now slots.now rows.now ids free) ∥₁ }
-        ensures { (ids free : List ℕ) → Placed self.now slots.now rows.now ids free → MatchOption result (first (of_caller caller) (sessions_at rows.now ids) ≡ None) (λ i. (count i ids ≡ 1) × ((slice_index_or (map session_of rows.now) i (session 0 0)).caller ≡ caller)) }
-    {
-        self.callers.find(slots, rows, &ByCaller, &caller)
-    }
-
     /// Has a free row be the session of a caller that has none, in front of the others.
     pub fn enter(
         &mut self,
@@ -76,14 +53,5 @@ impl Roster {
         self.take_open(slots, rows, i);
         self.put_free(rows, i);
         self.count -= 1;
-    }
-
-    /// Goes one step on with the growth of the table of callers.
-    pub fn move_slot(&mut self, slots: &mut [u32], rows: &mut [SessionRow])
-        requires { ∥ ((xs : List Session) × Shown self.old slots.old rows.old xs) ∥₁ }
-        ensures shown { (xs : List Session) → Shown self.old slots.old rows.old xs → Shown self.new slots.new rows.new xs }
-        ensures moved { size self.new.callers ≡ move_one (size self.old.callers) }
-    {
-        self.callers.move_one(slots, rows);
     }
 }

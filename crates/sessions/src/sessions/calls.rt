@@ -4,10 +4,9 @@ ghost use Rattle.std.specs.Prelude.{◌≡◌, ℕ, true, false, List, [], map, 
 ghost use Rattle.recency.specs.Lists.{foremost};
 ghost use Rattle.recency.specs.Numbers.{count as times};
 ghost use Rattle.chained.specs.Growth.{start, grow_after, move_one};
-ghost use Rattle.model.specs.Calls.{Session, of_caller, not_of, served, busy, idle_enough};
+ghost use Rattle.model.specs.Calls.{Session, of_caller, not_of, served};
 ghost use Rattle.model.specs.Store.{first};
 ghost use Rattle.sessions.specs.Rows.{session, session_of, sessions_at};
-ghost use Rattle.sessions.specs.Orders.{Descending, EndsBusy, Swept};
 ghost use Rattle.sessions.specs.Rosters.{Placed};
 ghost use Rattle.sessions.specs.Admissions.{has_session, refuse_entry};
 ghost use Rattle.sessions.specs.Showing.{Shows, table_size};
@@ -15,6 +14,7 @@ ghost use Rattle.sessions.specs.Showing.{Shows, table_size};
 use crate::roster::Roster;
 use crate::row::SessionRow;
 use crate::sessions::Sessions;
+use chained::ByNumber;
 use refusals::Refusal;
 
 /// How many rows and slots there are, and so how many sessions can be open.
@@ -43,21 +43,23 @@ impl Sessions {
     pub fn count(&self) -> u32
         ensures { (xs : List Session) → Shows self.now xs → result ≡ length xs }
     {
-        self.roster.count()
+        self.roster.count
     }
 
     // The row of a caller's session, if it has one.
     fn find(&self, caller: u32) -> Option<u32>
         ensures { (ids free : List ℕ) → Placed self.now.roster self.now.slots.items self.now.rows.items ids free → MatchOption result (first (of_caller caller) (sessions_at self.now.rows.items ids) ≡ None) (λ i. (times i ids ≡ 1) × ((slice_index_or (map session_of self.now.rows.items) i (session 0 0)).caller ≡ caller)) }
     {
-        self.roster.find(&self.slots, &self.rows, caller)
+        self.roster
+            .callers
+            .find(&self.slots, &self.rows, &ByNumber, &caller)
     }
 
     // A free row, if there is one.
     fn spare_row(&self) -> Option<u32>
         ensures { (ids free : List ℕ) → Placed self.now.roster self.now.slots.items self.now.rows.items ids free → result ≡ foremost free }
     {
-        self.roster.spare_row()
+        self.roster.free.front()
     }
 
     /// Whether a caller has an open session.
@@ -113,22 +115,13 @@ impl Sessions {
         true
     }
 
-    /// Closes sessions from the back, up to the first that was not idle long enough, and tells how many. As long as
-    /// the clock never runs back, these are all that were idle long enough.
-    pub fn close_idle(&mut self, second: u32, limit: u16) -> u32
-        ensures stops { (xs : List Session) → Shows self.old xs → (ys : List Session) × Swept second limit xs result ys × EndsBusy second limit ys × Shows self.new ys }
-        ensures closes { (xs : List Session) → Shows self.old xs → Descending xs → Shows self.new (filter (busy second limit) xs) × (result ≡ length (filter (idle_enough second limit) xs)) }
-        ensures size { table_size self.new ≡ table_size self.old }
-    {
-        self.roster
-            .close_idle(&mut self.slots, &mut self.rows, second, limit)
-    }
-
     /// One old slot of the table of callers is moved, if one is left.
     pub fn move_slot(&mut self)
         ensures shown { (xs : List Session) → Shows self.old xs → Shows self.new xs }
         ensures moved { table_size self.new ≡ move_one (table_size self.old) }
     {
-        self.roster.move_slot(&mut self.slots, &mut self.rows);
+        self.roster
+            .callers
+            .move_one(&mut self.slots, &mut self.rows);
     }
 }

@@ -5,33 +5,24 @@ use Rattle.recency.proofs.Known.{few_of, front_within, listed_as, columns_even}
 use Rattle.recency.proofs.Steps.{pushed, pushed_others, pushed_nexts, pushed_prevs, row_same}
 use Rattle.recency.proofs.RecencyList.push_front.Goals as goal
 
-pub join-requires : goal.join-requires
-join-requires g c =
+pub join-requires-clause-few : goal.join-requires-clause-few
+join-requires-clause-few g c =
     let rows = c.args.rows.now in
     let list = c.args.self.now in
-    let next = map g.R.Linked.next_of rows in
-    let prev = map g.R.Linked.prev_of rows in
-    let even = length-map rows g.R.Linked.next_of in
-    record {
-      few = omega (arith, few_of list.front list.back next prev c.requires.outside, even);
-      ahead = λ _. c.requires.within;
-      behind = λ ne. omega (arith, front_within list.front list.back next prev c.requires.outside ne, even);
-    }
+    omega (arith, few_of list.front list.back (map g.R.Linked.next_of rows) (map g.R.Linked.prev_of rows) c.requires.outside, length-map rows g.R.Linked.next_of)
 
-pub join-requires-2 : goal.join-requires-2
-join-requires-2 g c =
+pub join-requires-clause-behind : goal.join-requires-clause-behind
+join-requires-clause-behind g c = λ ne.
     let rows = c.args.rows.now in
     let list = c.args.self.now in
-    let next = map g.R.Linked.next_of rows in
-    let prev = map g.R.Linked.prev_of rows in
-    let even = length-map rows g.R.Linked.bare in
-    let even_2 = length-map c.join.new.rows g.R.Linked.bare in
+    omega (arith, front_within list.front list.back (map g.R.Linked.next_of rows) (map g.R.Linked.prev_of rows) c.requires.outside ne, length-map rows g.R.Linked.next_of)
+
+pub join-requires-2-clause-few : goal.join-requires-2-clause-few
+join-requires-2-clause-few g c =
+    let rows = c.args.rows.now in
+    let list = c.args.self.now in
     let same = ap length c.join.ensures.rest in
-    record {
-      few = omega (arith, few_of list.front list.back next prev c.requires.outside, length-map rows g.R.Linked.next_of);
-      ahead = λ ne. absurd (ne refl);
-      behind = λ _. omega (arith, c.requires.within);
-    }
+    omega (arith, few_of list.front list.back (map g.R.Linked.next_of rows) (map g.R.Linked.prev_of rows) c.requires.outside, length-map rows g.R.Linked.next_of, length-map rows g.R.Linked.bare, length-map c.join.new.rows g.R.Linked.bare)
 
 pub returns : goal.returns
 returns g c =

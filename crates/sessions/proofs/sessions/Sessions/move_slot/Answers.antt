@@ -1,27 +1,23 @@
 use Rattle.std.proofs.Common.{arith}
 use mathlib.Core.Logic.{∥∥₁_map}
-use Rattle.sessions.proofs.Shown.{shown_as, shown_back}
+use Rattle.sessions.proofs.Shown.{placed_as, shown_as, shown_back, shown_moved}
 use Rattle.sessions.proofs.sessions.Sessions.move_slot.Goals as goal
 
-pub move_slot-requires : goal.move_slot-requires
-move_slot-requires c = ∥∥₁_map c.args.self.now.ok (λ t. (t.0, shown_as c.args.self.now.roster t.0 c.deref_mut.ensures.value c.deref_mut-2.ensures.value t.1))
+pub move_one-requires : goal.move_one-requires
+move_one-requires c = ∥∥₁_map c.args.self.now.ok (λ t. (t.1.0, (placed_as _ _ _ c.deref_mut.ensures.value c.deref_mut-2.ensures.value t.1.2).laid.kept))
 
 pub invariant_of-self : goal.invariant_of-self
 invariant_of-self c =
     let self = c.args.self.now in record {
       ok = ∥∥₁_map self.ok (λ t. (
         t.0,
-        shown_back c.move_slot.new.self t.0 self.slots self.rows c.move_slot.new.slots c.move_slot.new.rows (omega arith) (omega arith)
-            (c.move_slot.ensures.shown t.0 (shown_as self.roster t.0 c.deref_mut.ensures.value c.deref_mut-2.ensures.value t.1)),
+        shown_back _ t.0 self.slots self.rows c.move_one.new.heads c.move_one.new.rows (omega arith) (omega arith)
+            (shown_moved self.roster c.move_one.new.self _ _ _ _ t.0 c.move_one.ensures.rest (omega arith) c.move_one.ensures.held (shown_as self.roster t.0 c.deref_mut.ensures.value c.deref_mut-2.ensures.value t.1)),
       ));
     }
 
-pub returns : goal.returns
-returns c =
+pub returns-clause-shown : goal.returns-clause-shown
+returns-clause-shown c = λ xs s.
     let self = c.args.self.now in
-    record {
-      shown = λ xs s.
-          shown_back c.move_slot.new.self xs self.slots self.rows c.move_slot.new.slots c.move_slot.new.rows (omega arith) (omega arith)
-          (c.move_slot.ensures.shown xs (shown_as self.roster xs c.deref_mut.ensures.value c.deref_mut-2.ensures.value s));
-      moved = c.move_slot.ensures.moved;
-    }
+    shown_back _ xs self.slots self.rows c.move_one.new.heads c.move_one.new.rows (omega arith) (omega arith)
+    (shown_moved self.roster c.move_one.new.self _ _ _ _ xs c.move_one.ensures.rest (omega arith) c.move_one.ensures.held (shown_as self.roster xs c.deref_mut.ensures.value c.deref_mut-2.ensures.value s))

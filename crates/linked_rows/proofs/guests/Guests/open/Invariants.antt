@@ -1,6 +1,0 @@
-use Rattle.std.proofs.Common.{◌≡◌, ℕ, ◌<◌, map, get_or}
-use Rattle.linked_rows.specs.Lists.{present}
-use Rattle.linked_rows.proofs.guests.Guests.open.Given as goal
-
-abbrev pub invariant-loop-row : goal.invariant-loop-row
-invariant-loop-row l = (k : ℕ) → k < l.row-index → get_or (map present l.rows) k 0 ≡ 0
