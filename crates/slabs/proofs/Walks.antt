@@ -9,7 +9,7 @@ use Rattle.slabs.specs.declared.class.Stand.TheVariants.{Held}
 use Rattle.slabs.specs.declared.slab.Slab.{Slab}
 use Rattle.slabs.specs.Lists.{held_of, keep}
 use Rattle.slabs.specs.Layouts.{class_at}
-use Rattle.slabs.specs.Slabs.{layout, Lists, Sound, Holds}
+use Rattle.slabs.specs.Slabs.{layout, Lists, Holds}
 use Rattle.slabs.proofs.Ends.{rearmost_in, names, class_is}
 
 -- of the list xs the n rows at the back do not pass, and `at` is the row ahead of them
@@ -92,10 +92,10 @@ module _ (test : ℕ → Bool) (xs : List ℕ) (n : ℕ) where
       }
 
 -- the row at hand holds a record
-pub walk_holds : (s : Slab) (t : ∥ Sound s ∥₁) (class i n : ℕ) (test : ℕ → Bool) → ((ls : ℕ → List ℕ) → Lists s ls → Walked test (ls (held_of class)) n (Some i)) → Holds s i
-walk_holds s t class i n test w =
-    let home = names s t i (held_of class) (omega arith) (λ ls f. walk_in test (ls (held_of class)) n i (w ls f)) in
-    home ∙ ap held_of (sym (class_is s t i class Held home))
+pub walk_holds : (s : Slab) (class i n : ℕ) (test : ℕ → Bool) → ((ls : ℕ → List ℕ) → Lists s ls → Walked test (ls (held_of class)) n (Some i)) → Holds s i
+walk_holds s class i n test w =
+    let home = names s i (held_of class) (omega arith) (λ ls f. walk_in test (ls (held_of class)) n i (w ls f)) in
+    home ∙ ap held_of (sym (class_is s i class Held home))
 
-pub walk_class : (s : Slab) (t : ∥ Sound s ∥₁) (class i n : ℕ) (test : ℕ → Bool) → ((ls : ℕ → List ℕ) → Lists s ls → Walked test (ls (held_of class)) n (Some i)) → class_at (layout s) i ≡ class
-walk_class s t class i n test w = class_is s t i class Held (names s t i (held_of class) (omega arith) (λ ls f. walk_in test (ls (held_of class)) n i (w ls f)))
+pub walk_class : (s : Slab) (class i n : ℕ) (test : ℕ → Bool) → ((ls : ℕ → List ℕ) → Lists s ls → Walked test (ls (held_of class)) n (Some i)) → class_at (layout s) i ≡ class
+walk_class s class i n test w = class_is s i class Held (names s i (held_of class) (omega arith) (λ ls f. walk_in test (ls (held_of class)) n i (w ls f)))

@@ -3,6 +3,7 @@
 #![tactic(auto)]
 
 mod class;
+mod classes;
 mod grant;
 mod laws;
 mod row;

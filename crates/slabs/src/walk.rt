@@ -5,7 +5,7 @@ ghost use Rattle.recency.specs.Lists.{rearmost};
 ghost use Rattle.slabs.specs.declared.row.Row.{Row};
 ghost use Rattle.slabs.specs.Rows.{blank};
 ghost use Rattle.slabs.specs.Lists.{held_of, keep};
-ghost use Rattle.slabs.specs.Slabs.{rows_of, Lists, Sound};
+ghost use Rattle.slabs.specs.Slabs.{rows_of, Lists};
 
 use crate::row::Row;
 use crate::slab::Slab;
@@ -21,7 +21,6 @@ pub trait RowTest {
 impl Slab {
     /// The record nearest the back of a class that passes a test, if there is one.
     pub fn rearmost_that<T: RowTest>(&self, class: usize, test: &T) -> Option<u32>
-        requires { ∥ Sound self.now ∥₁ }
         ensures { (ls : ℕ → List ℕ) → Lists self.now ls → result ≡ rearmost (keep (λ i. T.picked test.now (slice_index_or (rows_of self.now) i blank)) (ls (held_of class))) }
     {
         let held = self.tally(class).used;

@@ -14,8 +14,8 @@ index-requires g c =
     let class = c.args.class in
     let n = c.loop-walked.walked in
     let test : ℕ → Bool = λ k. g.T.RowTest.picked c.args.test.now (get_or (rows_of s) k blank) in
-    let held = walk_holds s c.requires class i n test (λ ls f. subst (λ a. Walked test (ls (held_of class)) n a) c.in-Some.is (c.loop-walked.invariant ls f)) in
-    omega (arith, listed_within s c.requires i (omega arith))
+    let held = walk_holds s class i n test (λ ls f. subst (λ a. Walked test (ls (held_of class)) n a) c.in-Some.is (c.loop-walked.invariant ls f)) in
+    omega (arith, listed_within s i (omega arith))
 
 pub returns-then-picks : goal.returns-then-picks
 returns-then-picks g c = λ ls f.
@@ -26,9 +26,9 @@ returns-then-picks g c = λ ls f.
     let picked = g.T.RowTest.picked c.args.test.now in
     let test : ℕ → Bool = λ k. picked (get_or (rows_of s) k blank) in
     let w : (ls : ℕ → List ℕ) → Lists s ls → Walked test (ls (held_of class)) n (Some i) = λ ls f. subst (λ a. Walked test (ls (held_of class)) n a) c.in-Some.is (c.loop-walked.invariant ls f) in
-    let held = walk_holds s c.requires class i n test w in
+    let held = walk_holds s class i n test w in
     let row = c.index.result.now in
-    let pass : test i ≡ true = ap picked (get_or_default (rows_of s) i blank row (listed_within s c.requires i (omega arith)) ∙ sym c.index.ensures) ∙ sym c.picks.ensures ∙ c.if-picks.true in
+    let pass : test i ≡ true = ap picked (get_or_default (rows_of s) i blank row (listed_within s i (omega arith)) ∙ sym c.index.ensures) ∙ sym c.picks.ensures ∙ c.if-picks.true in
     walk_finds test (ls (held_of class)) n i pass (w ls f)
 
 pub ahead_of-at-requires : goal.ahead_of-at-requires
@@ -38,7 +38,7 @@ ahead_of-at-requires g c =
     let class = c.args.class in
     let n = c.loop-walked.walked in
     let test : ℕ → Bool = λ k. g.T.RowTest.picked c.args.test.now (get_or (rows_of s) k blank) in
-    record { sound = c.requires; held = walk_holds s c.requires class i n test (λ ls f. subst (λ a. Walked test (ls (held_of class)) n a) c.in-Some.is (c.loop-walked.invariant ls f)) }
+    walk_holds s class i n test (λ ls f. subst (λ a. Walked test (ls (held_of class)) n a) c.in-Some.is (c.loop-walked.invariant ls f))
 
 pub loop-walked-preserved : goal.loop-walked-preserved
 loop-walked-preserved g c = λ ls f.
@@ -49,10 +49,10 @@ loop-walked-preserved g c = λ ls f.
     let picked = g.T.RowTest.picked c.args.test.now in
     let test : ℕ → Bool = λ k. picked (get_or (rows_of s) k blank) in
     let w : (ls : ℕ → List ℕ) → Lists s ls → Walked test (ls (held_of class)) n (Some i) = λ ls f. subst (λ a. Walked test (ls (held_of class)) n a) c.in-Some.is (c.loop-walked.invariant ls f) in
-    let held = walk_holds s c.requires class i n test w in
+    let held = walk_holds s class i n test w in
     let row = c.index.result.now in
-    let fail : test i ≡ false = ap picked (get_or_default (rows_of s) i blank row (listed_within s c.requires i (omega arith)) ∙ sym c.index.ensures) ∙ sym c.picks.ensures ∙ c.if-picks.false in
-    let there = ap (λ k. ls (held_of k)) (walk_class s c.requires class i n test w) in
+    let fail : test i ≡ false = ap picked (get_or_default (rows_of s) i blank row (listed_within s i (omega arith)) ∙ sym c.index.ensures) ∙ sym c.picks.ensures ∙ c.if-picks.false in
+    let there = ap (λ k. ls (held_of k)) (walk_class s class i n test w) in
     walk_goes test (ls (held_of class)) n i c.ahead_of-at.result fail (w ls f)
     (c.ahead_of-at.ensures ls f (rear_parts (w ls f).ahead i (w ls f).at_is).0 (w ls f).behind (there ∙ walk_parts test (ls (held_of class)) n i (w ls f)))
 
