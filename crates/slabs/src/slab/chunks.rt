@@ -27,7 +27,7 @@ impl Slab {
     fn first(&self, class: usize, stand: Stand) -> Option<u32>
         ensures { (ls : ℕ → List ℕ) → Lists self.now ls → result ≡ foremost (ls (list_of stand class)) }
     {
-        self.classes.all.get(class)?.first(stand)
+        self.classes.all.get(class)?.at(stand).list.front()
     }
 
     /// Grants a free chunk of a class, if it has one.
@@ -74,7 +74,7 @@ impl Slab {
     pub fn rearmost(&self, class: usize) -> Option<u32>
         ensures { (ls : ℕ → List ℕ) → Lists self.now ls → result ≡ rearmost (ls (held_of class)) }
     {
-        self.classes.all.get(class)?.last(Stand::Held)
+        self.classes.all.get(class)?.at(Stand::Held).list.back()
     }
 
     /// The record at the front of a class, if it has one.

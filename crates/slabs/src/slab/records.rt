@@ -1,16 +1,25 @@
 //! Records: their bytes in page memory, and what their rows tell of them.
 
-ghost use Rattle.std.specs.Prelude.{◌≡◌, ℕ, ◌+◌, ◌*◌, ◌<◌, ◌≤◌, List, map, length, Decides, ◌≢◌, slice_index, slice_index_or};
+ghost use Rattle.std.specs.Prelude.{◌≡◌, ℕ, ◌+◌, ◌*◌, ◌/◌, ◌%◌, ◌<◌, ◌≤◌, List, map, length, ◌≢◌, slice_index, slice_index_or};
 ghost use Rattle.slabs.specs.Rows.{homes};
 ghost use Rattle.slabs.specs.Lists.{granted_of, held_of};
 ghost use Rattle.slabs.specs.Layouts.{start, Chunk};
 ghost use Rattle.slabs.specs.Slabs.{rows_of, homes_of, layout, Lists, Shifted, Holds, Granted};
 ghost use Rattle.slabs.specs.Records.{Described, Written, Retagged, chunk_of, key_of, data_of, key_lens, data_lens, tags};
 
-use super::{CLASSES, PAGE, ROWS_PER_PAGE, Slab};
-use crate::class::{Stand, number};
+use super::{PAGE, ROWS_PER_PAGE, Slab};
+use crate::class::Stand;
 use crate::grant::Grant;
 use crate::row::{Row, Tag};
+
+// Where the chunk of a row begins, in a page that is cut into chunks of this size.
+pub(super) fn chunk_start(i: u32, size: u32) -> usize
+    ensures { result ≡ i / 85 * 4096 + i % 85 * size }
+{
+    let page = i as usize / ROWS_PER_PAGE;
+    let place = i as usize % ROWS_PER_PAGE;
+    page * PAGE + place * size as usize
+}
 
 // Writes a key and then its data.
 fn write_record(memory: &mut [u8], at: usize, key: &[u8], block: &[u8])
@@ -59,9 +68,7 @@ impl Slab {
         ensures { result ≡ start (layout self.now) i }
     {
         let class = self.class_of(i);
-        let page = i as usize / ROWS_PER_PAGE;
-        let place = i as usize % ROWS_PER_PAGE;
-        page * PAGE + place * self.classes.all[class].size as usize
+        chunk_start(i, self.classes.all[class].size)
     }
 
     /// Fills a granted chunk with a key and its data: it becomes the front record of its class. Gives its row.
@@ -103,26 +110,11 @@ impl Slab {
         self.rows[i as usize]
     }
 
-    /// Whether a row holds a record.
-    pub fn holds(&self, i: u32) -> bool
-        ensures { Decides result (Holds self.now i) }
-    {
-        if i as usize >= self.rows.len() {
-            return false;
-        }
-        let class = self.owners[i as usize / ROWS_PER_PAGE] as usize;
-        self.rows[i as usize].home == number(Stand::Held, class)
-    }
-
     /// The size of a class's chunks, 0 where there is no such class.
     pub fn size(&self, class: usize) -> u32
         ensures { result ≡ slice_index (layout self.now).sizes class }
     {
-        if class >= CLASSES {
-            0
-        } else {
-            self.classes.all[class].size
-        }
+        self.classes.all.get(class).map_or(0, |class| class.size)
     }
 
     /// The key of a record, where it lies in page memory.
