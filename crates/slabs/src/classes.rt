@@ -103,8 +103,8 @@ impl Classes {
         ensures rests { rests rows.new ≡ rests rows.old }
         ensures frames { map frame self.new.all ≡ map frame self.old.all }
     {
-        for place in 0..chunks {
-            self.enter(rows, class, Stand::Free, first + place);
+        for i in first..first + chunks {
+            self.enter(rows, class, Stand::Free, i);
         }
     }
 }
