@@ -9,11 +9,10 @@ ghost use Rattle.slabs.specs.Layouts.{class_at, start};
 ghost use Rattle.slabs.specs.Slabs.{rows_of, layout, Lists, Shifted, Reordered, Holds, Granted, IfHeld, Tells};
 ghost use Rattle.slabs.specs.Records.{Retagged, FitsGrant, Filled, bytes_at, key_of, data_of, tags};
 
-use super::{PAGE, ROWS_PER_PAGE, Slab};
+use super::{PAGE, Slab};
 use crate::class::{Stand, number};
 use crate::grant::Grant;
 use crate::row::{Row, Tag};
-use crate::slab::records::chunk_start;
 
 // Bytes from a place on, as far as there are any.
 fn cut(bytes: &[u8], from: usize, len: u32) -> &[u8]
@@ -30,8 +29,7 @@ impl Slab {
         ensures { Tells self.now i result (λ row. row.now ≡ slice_index_or (rows_of self.now) i blank) }
     {
         let row = self.rows.get(i as usize)?;
-        let class = self.owner_of(i as usize / ROWS_PER_PAGE);
-        (row.home == number(Stand::Held, class)).then_some(row)
+        (row.home == number(Stand::Held, self.class_of(i))).then_some(row)
     }
 
     /// Whether a row holds a record.
@@ -100,20 +98,12 @@ impl Slab {
         Ok(self.link(grant, memory, key, block, tag))
     }
 
-    // The class that a page was given to, 0 for none.
-    fn owner_of(&self, page: usize) -> usize
-        ensures { result ≡ slice_index self.now.owners page }
-    {
-        self.owners.get(page).map_or(0, |class| *class as usize)
-    }
-
     /// Some bytes from where the chunk of a row begins, as far as page memory has them: whoever looks for a key reads
     /// here, with no need to know that the row holds a record.
     pub fn bytes_of<'a>(&self, memory: &'a [u8], i: u32, len: u32) -> &'a [u8]
         ensures { result.now ≡ bytes_at memory.now (start (layout self.now) i) len }
     {
-        let size = self.size(self.owner_of(i as usize / ROWS_PER_PAGE));
-        cut(memory, chunk_start(i, size), len)
+        cut(memory, self.start(i), len)
     }
 
     /// The key of a record, where it lies in page memory, as far as page memory has it. None where the row holds no record.

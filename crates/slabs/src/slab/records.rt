@@ -1,6 +1,6 @@
 //! Records: their bytes in page memory, and what their rows tell of them.
 
-ghost use Rattle.std.specs.Prelude.{◌≡◌, ℕ, ◌+◌, ◌*◌, ◌/◌, ◌%◌, ◌<◌, ◌≤◌, List, map, length, ◌≢◌, slice_index, slice_index_or};
+ghost use Rattle.std.specs.Prelude.{◌≡◌, ℕ, ◌+◌, ◌*◌, ◌<◌, ◌≤◌, List, map, length, ◌≢◌, slice_index, slice_index_or};
 ghost use Rattle.slabs.specs.Rows.{homes};
 ghost use Rattle.slabs.specs.Lists.{granted_of, held_of};
 ghost use Rattle.slabs.specs.Layouts.{start, Chunk};
@@ -11,15 +11,6 @@ use super::{PAGE, ROWS_PER_PAGE, Slab};
 use crate::class::Stand;
 use crate::grant::Grant;
 use crate::row::{Row, Tag};
-
-// Where the chunk of a row begins, in a page that is cut into chunks of this size.
-pub(super) fn chunk_start(i: u32, size: u32) -> usize
-    ensures { result ≡ i / 85 * 4096 + i % 85 * size }
-{
-    let page = i as usize / ROWS_PER_PAGE;
-    let place = i as usize % ROWS_PER_PAGE;
-    page * PAGE + place * size as usize
-}
 
 // Writes a key and then its data.
 fn write_record(memory: &mut [u8], at: usize, key: &[u8], block: &[u8])
@@ -62,13 +53,13 @@ impl Slab {
         describe_row(&mut self.rows, i, key_len, data_len, tag);
     }
 
-    // Where the chunk of a row that is in a list begins.
+    // Where the chunk of a row begins.
     pub(super) fn start(&self, i: u32) -> usize
-        requires { 0 < slice_index (homes_of self.now) i }
         ensures { result ≡ start (layout self.now) i }
     {
-        let class = self.class_of(i);
-        chunk_start(i, self.classes.all[class].size)
+        let page = i as usize / ROWS_PER_PAGE;
+        let place = i as usize % ROWS_PER_PAGE;
+        page * PAGE + place * self.size(self.class_of(i)) as usize
     }
 
     /// Fills a granted chunk with a key and its data: it becomes the front record of its class. Gives its row.
