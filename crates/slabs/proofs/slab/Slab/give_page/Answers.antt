@@ -2,7 +2,6 @@ use Rattle.std.proofs.Common.{◌≡◌, ℕ, ◌+◌, ◌*◌, ◌<◌, List, l
 use Rattle.std.specs.Vec.{with_items}
 use mathlib.Core.Logic.{∥∥₁_map}
 use lib.ListN.{length-map}
-use Rattle.std.proofs.lemmas.Bool.{lt-ltb, and_from}
 use Rattle.slabs.specs.Rows.{homes, rest}
 use Rattle.slabs.specs.Classes.{no_class, with_share}
 use Rattle.slabs.specs.Lists.{Family, free_of, stocked, filled}
@@ -10,28 +9,27 @@ use Rattle.slabs.specs.Orders.{InOrder}
 use Rattle.slabs.specs.Slabs.{layout}
 use Rattle.slabs.proofs.Lending.{lists_back, homes_back, rests_back}
 use Rattle.slabs.proofs.Sounds.{some_lists}
-use Rattle.slabs.proofs.Pages.{class_of_chunks, pages_few, stock_within, stock_few, stock_room, homeless, share_room, lists_given, layout_given, order_page}
+use Rattle.slabs.proofs.Pages.{class_of_chunks, pages_few, stock_few, stock_room, homeless, share_room, lists_given, layout_given, order_page}
 use Rattle.slabs.proofs.slab.Slab.give_page.Goals as goal
 
-pub stock-requires : goal.stock-requires
-stock-requires c =
+pub stock-requires-clause-room : goal.stock-requires-clause-room
+stock-requires-clause-room c =
     let s = c.args.self.now in
     let class = c.args.class in
-    let rows = c.deref_mut.ensures.value in
-    let is = sym c.chunks-chunks.ensures in
-    let some : 0 < get_or (layout s).chunks class 0 = omega (arith, c.if-chunks-eq0.false) in
+    let some : 0 < get_or (layout s).chunks class 0 = omega (arith, c.if-chunks-eq0.false, c.chunks-chunks.ensures) in
     let few = class_of_chunks s class some in
-    let free = c.if-self.false in
-    let most = stock_few s class few some free in
-    let pages = pages_few s in
-    record {
-      class = few;
-      within = omega (arith, ap length rows, stock_within s class few some free);
-      few = omega arith;
-      room = omega (arith, stock_room s class few some free);
-      lists = subst (λ rows. ∥ ((ls : ℕ → List ℕ) × Family s.classes.all rows ls) ∥₁) (sym rows) (some_lists s);
-      homeless = λ k lt. ap (λ xs. get_or (homes xs) (85 * s.given + k) 0) rows ∙ homeless s class few some free k (omega arith);
-    }
+    omega (arith, stock_room s class few some c.if-self.false, stock_few s class few some c.if-self.false, c.chunks-chunks.ensures)
+
+pub stock-requires-clause-lists : goal.stock-requires-clause-lists
+stock-requires-clause-lists c = subst (λ rows. ∥ ((ls : ℕ → List ℕ) × Family c.args.self.now.classes.all rows ls) ∥₁) (sym c.deref_mut.ensures.value) (some_lists c.args.self.now)
+
+pub stock-requires-clause-homeless : goal.stock-requires-clause-homeless
+stock-requires-clause-homeless c = λ k lt.
+    let s = c.args.self.now in
+    let class = c.args.class in
+    let some : 0 < get_or (layout s).chunks class 0 = omega (arith, c.if-chunks-eq0.false, c.chunks-chunks.ensures) in
+    let few = class_of_chunks s class some in
+    ap (λ xs. get_or (homes xs) (85 * s.given + k) 0) c.deref_mut.ensures.value ∙ homeless s class few some c.if-self.false k (omega (arith, c.chunks-chunks.ensures))
 
 pub overflow_add-self : goal.overflow_add-self
 overflow_add-self c =
@@ -69,8 +67,8 @@ invariant_of-self c =
           (rests_back s.rows lent ws c.deref_mut.ensures.value long told.rests)));
     }
 
-pub returns : goal.returns
-returns c =
+pub returns-clause-given : goal.returns-clause-given
+returns-clause-given c =
     let s = c.args.self.now in
     let class = c.args.class in
     let free = c.if-self.false in
@@ -85,12 +83,7 @@ returns c =
     let rows = vec_items (with_items s.rows ws) in
     let n = c.chunks-chunks.result in
     record {
-      answer = sym (and_from _ _ (lt-ltb s.given s.pages free) (lt-ltb 0 (get_or (layout s).chunks class 0) some));
-      given =
-          record {
-            lists = lists_given s class few some free mid rows n is told.frames (lists_back s.rows lent ws c.deref_mut.ensures.value long s.classes.all mid (stocked (85 * s.given) n (free_of class)) told.lists);
-            homes = homes_back s.rows lent ws c.deref_mut.ensures.value long (filled (85 * s.given) n (free_of class)) told.homes ∙ ap (λ k. filled (85 * s.given) k (free_of class) (homes (vec_items s.rows))) (sym is);
-            layout = layout_given s class few some free mid rows n is told.frames;
-          };
-      rests = rests_back s.rows lent ws c.deref_mut.ensures.value long told.rests;
+      lists = lists_given s class few some free mid rows n is told.frames (lists_back s.rows lent ws c.deref_mut.ensures.value long s.classes.all mid (stocked (85 * s.given) n (free_of class)) told.lists);
+      homes = homes_back s.rows lent ws c.deref_mut.ensures.value long (filled (85 * s.given) n (free_of class)) told.homes ∙ ap (λ k. filled (85 * s.given) k (free_of class) (homes (vec_items s.rows))) (sym is);
+      layout = layout_given s class few some free mid rows n is told.frames;
     }
