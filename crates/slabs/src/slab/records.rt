@@ -31,13 +31,10 @@ fn describe_row(rows: &mut [Row], i: u32, key_len: u32, data_len: u32, tag: Tag)
     ensures homes { homes rows.new ≡ homes rows.old }
     ensures described { Described rows.old rows.new i key_len data_len tag }
 {
-    let row = rows[i as usize];
-    rows[i as usize] = Row {
-        key_len,
-        data_len,
-        tag,
-        ..row
-    };
+    let row = &mut rows[i as usize];
+    row.key_len = key_len;
+    row.data_len = data_len;
+    row.tag = tag;
 }
 
 impl Slab {
