@@ -1,21 +1,18 @@
 //! A slab: the rows of all chunks, the classes, and which page was given to which class.
 
 ghost use Rattle.std.specs.Prelude.{◌≡◌};
+ghost use Rattle.slabs.specs.Orders.{cut, InOrder};
 
-use crate::class::Class;
+use crate::classes::Classes;
 use crate::row::Row;
 
 mod asking;
 mod chunks;
-mod lists;
 mod opening;
 mod pages;
 mod records;
 
 pub use pages::Tally;
-
-/// The most classes, and one that stands for none.
-const CLASSES: usize = 33;
 
 /// The most chunks that a page can have.
 const ROWS_PER_PAGE: usize = 85;
@@ -30,10 +27,12 @@ const PAGE: usize = 4096;
 #[derive(Drop)]
 pub struct Slab {
     pub rows: Vec<Row>,
-    classes: [Class; 33],
+    classes: Classes,
+    // The class of each page, 0 for none; as many as `given` have one. Fixed memory: a page is given with nothing allocated.
     owners: [u8; 256],
     given: u32,
     pages: u32,
+    ghost ok: { ∥ InOrder classes.all rows.items (cut classes.all owners given pages) ∥₁ },
 }
 
 impl Slab {
