@@ -15,16 +15,11 @@ pub trait Policy {
     // the number that the table keeps from its opening, fixed for the policy
     const NUMBER: u8;
 
-    ghost bears: { ℕ };
+    ghost NUMBER: { ℕ };
 
     ghost evicting: { Self → Bool };
 
     ghost moving: { Self → ℕ → ℕ → Bool };
-
-    // The policy's number. Each policy answers its constant: one body here for all would need a law in each that
-    // `bears` is the constant, which is no shorter.
-    fn own_number() -> u8
-        ensures { result ≡ bears };
 
     // Whether a record may be pushed out of a full class.
     fn evicts(&self) -> bool
@@ -33,6 +28,13 @@ pub trait Policy {
     // Whether a use at `second` moves a record that was last stored or moved at `moved` to the front.
     fn moves(&self, second: u32, moved: u32) -> bool
         ensures { result ≡ moving self.now second moved };
+
+    // The policy's number.
+    final fn own_number() -> u8
+        ensures { result ≡ NUMBER }
+    {
+        Self::NUMBER
+    }
 }
 
 // What a policy answers at one use of a record.
@@ -45,9 +47,9 @@ pub struct Behaviour {
 
 // All that a policy is asked about a use at `second` of a record that was last stored or moved at `moved`.
 pub fn answers<P: Policy>(policy: &P, second: u32, moved: u32) -> Behaviour
-    ensures number { result.number ≡ (meaning P.Policy.bears (P.Policy.evicting policy.now) (P.Policy.moving policy.now)).number }
-    ensures evicts { result.evicts ≡ (meaning P.Policy.bears (P.Policy.evicting policy.now) (P.Policy.moving policy.now)).evicting }
-    ensures moves { result.moves ≡ (meaning P.Policy.bears (P.Policy.evicting policy.now) (P.Policy.moving policy.now)).moving second moved }
+    ensures number { result.number ≡ (meaning P.Policy.NUMBER (P.Policy.evicting policy.now) (P.Policy.moving policy.now)).number }
+    ensures evicts { result.evicts ≡ (meaning P.Policy.NUMBER (P.Policy.evicting policy.now) (P.Policy.moving policy.now)).evicting }
+    ensures moves { result.moves ≡ (meaning P.Policy.NUMBER (P.Policy.evicting policy.now) (P.Policy.moving policy.now)).moving second moved }
 {
     Behaviour {
         number: P::own_number(),

@@ -10,15 +10,11 @@ pub struct EveryUse;
 impl Policy for EveryUse {
     const NUMBER: u8 = 0;
 
-    ghost bears = { 0 };
+    ghost NUMBER = { 0 };
 
     ghost evicting = { λ _. true };
 
     ghost moving = { λ _ _ _. true };
-
-    fn own_number() -> u8 {
-        Self::NUMBER
-    }
 
     fn evicts(&self) -> bool {
         true
@@ -36,15 +32,11 @@ pub struct SixtySeconds;
 impl Policy for SixtySeconds {
     const NUMBER: u8 = 1;
 
-    ghost bears = { 1 };
+    ghost NUMBER = { 1 };
 
     ghost evicting = { λ _. true };
 
     ghost moving = { λ _ second moved. nat_le (moved + 60) second };
-
-    fn own_number() -> u8 {
-        Self::NUMBER
-    }
 
     fn evicts(&self) -> bool {
         true
@@ -62,15 +54,11 @@ pub struct FirstIn;
 impl Policy for FirstIn {
     const NUMBER: u8 = 2;
 
-    ghost bears = { 2 };
+    ghost NUMBER = { 2 };
 
     ghost evicting = { λ _. true };
 
     ghost moving = { λ _ _ _. false };
-
-    fn own_number() -> u8 {
-        Self::NUMBER
-    }
 
     fn evicts(&self) -> bool {
         true

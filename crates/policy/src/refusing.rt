@@ -10,15 +10,11 @@ pub struct Refusing;
 impl Policy for Refusing {
     const NUMBER: u8 = 3;
 
-    ghost bears = { 3 };
+    ghost NUMBER = { 3 };
 
     ghost evicting = { λ _. false };
 
     ghost moving = { λ _ _ _. true };
-
-    fn own_number() -> u8 {
-        Self::NUMBER
-    }
 
     fn evicts(&self) -> bool {
         false
