@@ -10,7 +10,9 @@ mod refusing;
 pub use recency::{EveryUse, FirstIn, SixtySeconds};
 pub use refusing::Refusing;
 
-// A policy's meaning is its ghost members; its answers are that meaning, and asking leaves it as it was.
+// A policy's meaning is its ghost members; its answers are that meaning, and asking leaves it as it was. Each policy is
+// a type of its own, and not one type with const parameters: callers pass it by its name, and an alias of a struct
+// with no fields is no value.
 pub trait Policy {
     // the number that the table keeps from its opening, fixed for the policy
     const NUMBER: u8;

@@ -15,7 +15,7 @@ invariant_of-self c =
     let page = fair c.args.self.now.plan c.in_ok-class.class fits.numbered.0 fits.numbered.1 in
     let small = product c.need-bytes.result c.args.kind.count (omega arith) in
     let old = c.index-self-class.result.paged in
-    record { paged = rw (sum, ← c.index-self-class.is) (omega arith) }
+    record { paged = omega (arith, ap (λ sum. sum.records) c.index-self-class.is, ap (λ sum. sum.filled) c.index-self-class.is) }
 
 pub returns-clause-total : goal.returns-clause-total
 returns-clause-total c =
