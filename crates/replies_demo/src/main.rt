@@ -43,7 +43,8 @@ fn found(reply: &mut [u8], items: &[Item], numbered: bool) -> usize
 {
     let mut writer = Writer::new(reply);
     for item in items {
-        writer.value(item.key, item.flags, item.data, item.cas, numbered);
+        let cas = numbered.then_some(item.cas);
+        writer.value(item.key, item.flags, item.data, cas);
     }
     writer.end();
     writer.len()
@@ -111,7 +112,7 @@ fn main(rt: HostRuntime) -> io::Result<()> {
     let mut out = rt.stdout();
     for line in LINES {
         let n = fixed(&mut reply, line);
-        out.write_all(&reply[0..n])?;
+        out.write_all(&reply[..n])?;
     }
     let items = [
         Item {
@@ -127,14 +128,12 @@ fn main(rt: HostRuntime) -> io::Result<()> {
             cas: 18_446_744_073_709_551_615,
         },
     ];
-    let n = found(&mut reply, &items, false);
-    out.write_all(&reply[0..n])?;
-    let n = found(&mut reply, &items, true);
-    out.write_all(&reply[0..n])?;
-    let n = found(&mut reply, &[], false);
-    out.write_all(&reply[0..n])?;
+    for (shown, numbered) in [(&items[..], false), (&items[..], true), (&[][..], false)] {
+        let n = found(&mut reply, shown, numbered);
+        out.write_all(&reply[..n])?;
+    }
     let n = counted(&mut reply, &sample_figures());
-    out.write_all(&reply[0..n])?;
+    out.write_all(&reply[..n])?;
     let n = found(&mut reply, &[LARGEST; 4], true);
     println!(rt;
         "The longest reply of a get takes {n} of {} bytes.",
