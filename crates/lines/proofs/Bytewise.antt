@@ -1,7 +1,9 @@
 -- Keys and numbers, byte by byte.
-use Rattle.std.proofs.Common.{◌≡◌, ℕ, ◌+◌, ◌-◌, ◌*◌, ◌<◌, ◌≤◌, Bool, true, false, ◌&&◌, List, [], ◌∷◌, length, get_or, drop, Some, None, ap, ◌∙◌, arith}
-use Rattle.lines.specs.Numbers.{good_key, key_bytes, value, value_after, number_of, exptime_of, above_zero, below_zero}
-use Rattle.std.proofs.lemmas.List.{at_drop_more}
+use Rattle.std.proofs.Common.{◌≡◌, ℕ, zero, suc, ◌+◌, ◌-◌, ◌*◌, ◌<◌, ◌≤◌, Bool, true, false, ◌&&◌, List, [], ◌∷◌, length, get_or, drop, Some, None, sym, refl, ap, ◌∙◌, arith}
+use Rattle.lines.specs.Numbers.{good_key, good_keys, key_byte, key_bytes, value, value_after, number_of, exptime_of, above_zero, below_zero}
+use Rattle.std.proofs.lemmas.List.{at_drop_all, at_drop_more}
+use Rattle.std.proofs.lemmas.List.Recursion.{same_from_clauses}
+use Rattle.std.specs.List.{list_all, range_with_len}
 use Rattle.std.proofs.lemmas.Bool.{cond-true, cond-false, eq-eqb, ne_eqb}
 use Rattle.std.proofs.lemmas.Bool.Decides.{nat_tests}
 use Rattle.std.specs.Str.{all_ascii_digits}
@@ -13,6 +15,15 @@ module _ {A : Type 0} (d : A) (p : A → Bool) (f : List A → Bool) (step : (x 
 
   pub fails : p (get_or xs i d) ≡ false → f (drop i xs) ≡ false
   fails e = at_drop_more f xs i d l ∙ step _ _ ∙ ap (λ b. b && f (drop (i + 1) xs)) e
+
+-- Each byte of a key, and each of the keys from a place on.
+pub all_key_bytes : (k : List ℕ) → list_all key_byte k ≡ key_bytes k
+all_key_bytes = same_from_clauses (list_all key_byte) key_bytes (λ b good. key_byte b && good) refl (λ _ _. refl) (λ _ _. refl)
+
+pub keys_from : (ts : List (List ℕ)) (at n : ℕ) → n ≡ length ts - at → list_all (λ i. good_key (get_or ts i [])) (range_with_len at n) ≡ good_keys (drop at ts)
+keys_from ts at zero e = sym (at_drop_all good_keys ts at (omega arith))
+keys_from ts at (suc n) e =
+    ap (λ good. good_key (get_or ts at []) && good) (keys_from ts (at + 1) n (omega arith)) ∙ sym (at_drop_more good_keys ts at [] (omega arith))
 
 -- A key of lawful length is good just if its bytes are.
 pub good_key_by_bytes : (k : List ℕ) → 0 < length k → length k ≤ 250 → good_key k ≡ key_bytes k
