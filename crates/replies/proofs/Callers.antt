@@ -7,7 +7,7 @@ use Rattle.replies.specs.Reply.{Shown, Reply, Values}
 use Rattle.replies.specs.Render.{render, value_lines, end_line}
 use Rattle.replies.specs.Growth.{held, Room, Wrote, Replied}
 use Rattle.replies.specs.Fair.{Fair, FairShown}
-use Rattle.replies.proofs.Writes.{both}
+use Rattle.replies.proofs.Writes.{both, nothing}
 use Rattle.replies.proofs.Fits.{value_short, values_short, every_reply_fits}
 
 -- a writer at the start of a buffer that is large enough
@@ -31,6 +31,10 @@ pub room_end : (numbered : Bool) (xs : List Shown) {u v : Writer} → length xs 
 room_end numbered xs {u} {v} few fair start p =
     let a = values_short numbered xs fair in
     omega (arith, start.empty, start.large, p.count, p.size)
+
+-- no record is written yet
+pub values_none : (numbered : Bool) (u : Writer) → Wrote (flat_map (value_lines numbered) []) u u
+values_none numbered u = nothing u
 
 -- one record more
 pub values_more : (numbered : Bool) (xs : List Shown) (s : Shown) {u v w : Writer} → Wrote (flat_map (value_lines numbered) xs) u v → Wrote (value_lines numbered s) v w → Wrote (flat_map (value_lines numbered) (xs ++ (s ∷ []))) u w

@@ -7,9 +7,8 @@ use Rattle.replies.specs.Reply.{Shown, Values}
 use Rattle.replies.specs.Render.{value_lines}
 use Rattle.replies.specs.Growth.{Room, Wrote}
 use Rattle.replies.specs.Fair.{FairShown}
-use Rattle.replies.proofs.Callers.{Fresh, room_value, room_end, values_more, values_all, replied}
+use Rattle.replies.proofs.Callers.{Fresh, room_value, room_end, values_none, values_more, values_all, replied}
 use Rattle.replies.proofs.Fits.{every_reply_fits}
-use Rattle.replies.proofs.Writes.{nothing}
 use Rattle.replies_demo.specs.declared.Item.{Item}
 use Rattle.replies_demo.specs.Items.{shown_of}
 use Rattle.replies_demo.proofs.found.Goals as goal
@@ -44,7 +43,7 @@ as_given true s o e = ap (lines_of s) (sym e)
 as_given false s o e = ap (lines_of s) (sym e)
 
 pub loop-item-init : goal.loop-item-init
-loop-item-init c = nothing c.new-writer.result
+loop-item-init c = values_none c.args.numbered c.new-writer.result
 
 pub loop-item-preserved : goal.loop-item-preserved
 loop-item-preserved c =
