@@ -97,9 +97,9 @@ impl<'a> Writer<'a> {
         self.put(b"VALUE ");
         self.put(key);
         self.put(b" ");
-        self.put_number(flags as u64);
+        self.put_number(flags);
         self.put(b" ");
-        self.put_number(bytes as u64);
+        self.put_number(bytes);
     }
 
     /// Writes the cas number behind the length, where one is given.

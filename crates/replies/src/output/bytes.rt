@@ -1,10 +1,9 @@
 //! Bytes and numbers, as they come.
 
-ghost use Rattle.std.specs.Prelude.{decimal};
 ghost use Rattle.replies.specs.Growth.{Room, Wrote};
 
 use super::Writer;
-use itoa::Buffer;
+use itoa::{Buffer, Integer};
 
 impl<'a> Writer<'a> {
     /// Copies `bytes` behind what is written.
@@ -19,9 +18,9 @@ impl<'a> Writer<'a> {
     }
 
     /// Writes `n` in decimal, with no leading zeros.
-    pub(super) fn put_number(&mut self, n: u64)
-        requires { Room (decimal n) self.old }
-        ensures { Wrote (decimal n) self.old self.new }
+    pub(super) fn put_number<N: Integer>(&mut self, n: N)
+        requires { Room (N.text n) self.old }
+        ensures { Wrote (N.text n) self.old self.new }
     {
         let mut buffer = Buffer::new();
         self.put(buffer.format(n).as_bytes());
