@@ -34,6 +34,7 @@ impl<'a> Line<'a> {
     ghost use Rattle.lines.specs.Reading.{alone, by_word, storage, retrieval, worded};
     ghost use Rattle.lines.specs.declared.words.Word.TheVariants as word;
 
+    // That there is an i-th token is a clause and no type: how many there are hangs on the word.
     /// The i-th token; the word is token 0.
     pub fn token(&self, i: usize) -> Part<'a>
         requires known { i < length self.now.tokens.items }
@@ -62,7 +63,7 @@ impl<'a> Line<'a> {
         }
     }
 
-    // A token and a test each: one function for both, of a closure, would be no shorter, and state its result by the closure's contract.
+    // This and `exptime` are a token and a test each: one function for both, of a closure, is no shorter, and its clause says less.
     /// The i-th token as a number of at most `most` digits and at most `top`.
     fn number(&self, i: usize, most: usize, top: u64) -> Result<u64, Fault>
         requires known { i < length self.now.tokens.items }

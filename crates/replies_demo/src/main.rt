@@ -2,7 +2,7 @@
 
 #![tactic(auto)]
 
-ghost use Rattle.std.specs.Prelude.{◌≤◌, [], ◌∷◌, map, length};
+ghost use Rattle.std.specs.Prelude.{◌≤◌, [], ◌∷◌, map};
 ghost use Rattle.replies.specs.Fair.{Fair};
 ghost use Rattle.replies.specs.Growth.{Replied};
 ghost use Rattle.replies.specs.Reply.{Line, Values, Statistics};
@@ -14,6 +14,12 @@ use replies::output::Writer;
 use std::io;
 use std::io::Write;
 
+/// How many bytes a buffer has: room for every reply that the table can give.
+const BYTES: usize = 18_432;
+
+/// The buffer that replies are written into.
+type Buffer = [u8; BYTES];
+
 /// A record to show.
 #[derive(Clone, Copy)]
 struct Item<'a> {
@@ -23,9 +29,9 @@ struct Item<'a> {
     cas: u64,
 }
 
+// A function for each kind of reply, since its contract names the reply; a closure that writes would hide it.
 /// Writes a fixed line, and tells its length.
-fn fixed(reply: &mut [u8], line: Text) -> usize
-    requires { 18432 ≤ length reply.old }
+fn fixed(reply: &mut Buffer, line: Text) -> usize
     ensures within { result ≤ 18432 }
     ensures replied { Replied (Line line) result reply.old reply.new }
 {
@@ -35,8 +41,7 @@ fn fixed(reply: &mut [u8], line: Text) -> usize
 }
 
 /// Writes the records of `items`, and tells how many bytes that took.
-fn found(reply: &mut [u8], items: &[Item], numbered: bool) -> usize
-    requires in_bounds { 18432 ≤ length reply.old }
+fn found(reply: &mut Buffer, items: &[Item], numbered: bool) -> usize
     requires fair { Fair (Values numbered (map shown_of items.now)) }
     ensures within { result ≤ 18432 }
     ensures replied { Replied (Values numbered (map shown_of items.now)) result reply.old reply.new }
@@ -51,8 +56,7 @@ fn found(reply: &mut [u8], items: &[Item], numbered: bool) -> usize
 }
 
 /// Writes the statistics, and tells how many bytes that took.
-fn counted(reply: &mut [u8], figures: &Figures) -> usize
-    requires in_bounds { 18432 ≤ length reply.old }
+fn counted(reply: &mut Buffer, figures: &Figures) -> usize
     requires fair { Fair (Statistics figures.now) }
     ensures within { result ≤ 18432 }
     ensures replied { Replied (Statistics figures.now) result reply.old reply.new }
@@ -108,7 +112,7 @@ fn sample_figures() -> Figures {
 }
 
 fn main(rt: HostRuntime) -> io::Result<()> {
-    let mut reply = [b'#'; 18_432];
+    let mut reply = [b'#'; BYTES];
     let mut out = rt.stdout();
     for line in LINES {
         let n = fixed(&mut reply, line);
