@@ -1,8 +1,8 @@
 -- A line with its tokens.
-use Rattle.std.proofs.Common.{◌≡◌, ℕ, ◌+◌, ◌-◌, ◌<◌, ◌≤◌, Bool, true, false, cond, List, [], map, length, get_or, take, drop, ℤ, Some, None, Option, Result, sym, refl, ap, ◌∙◌, subst, arith}
+use Rattle.std.proofs.Common.{◌≡◌, ℕ, ◌+◌, ◌-◌, ◌<◌, ◌≤◌, Bool, true, cond, List, [], map, length, get_or, take, drop, ℤ, Some, None, Option, Result, sym, refl, ap, ◌∙◌, subst, arith}
 use Rattle.lines.proofs.Places.{count_splits}
 use Rattle.lines.specs.declared.Fault.{Fault}
-use Rattle.lines.specs.declared.Fault.TheVariants.{BadLine, Unknown}
+use Rattle.lines.specs.declared.Fault.TheVariants.{BadLine}
 use Rattle.lines.specs.declared.line.Line.{Line}
 use Rattle.lines.specs.declared.request.Keys.{Keys}
 use Rattle.lines.specs.declared.request.Request.{Request}
@@ -16,18 +16,15 @@ use Rattle.lines.specs.Requests.{Answers, KeysOf, key_list}
 use Rattle.lines.specs.Spans.{CutAt, span_bytes, nth_span}
 use Rattle.lines.specs.Tokens.{tokens}
 use Rattle.std.proofs.lemmas.List.{drop-map, get_or-drop, get_or-take, length-drop, length-take-le}
-use Rattle.std.proofs.lemmas.Bool.{cond-true, cond-false}
+use Rattle.std.proofs.lemmas.Bool.{cond-true}
 
 pub count_tokens : (l : Line) → Cut l → length (toks l) ≡ length l.tokens.items
 count_tokens l cut = count_splits (take l.end l.bytes.now) l.tokens.items cut.split
 
--- A line whose word has as many tokens behind it as it takes, and one whose word has not: `n` is their count as the code has it.
+-- A line whose word has as many tokens behind it as it takes; `n` is the count of all tokens as the code has it.
 module _ (l : Line) (w : Word) (n : ℕ) (counted : n ≡ length l.tokens.items) where
   count_args : n - 1 ≡ length (args l)
   count_args = omega (arith, length-drop 1 (toks l), count_tokens l l.cut)
-
-  pub miscounted : takes w (n - 1) ≡ false → by_word (Some w) (args l) (rest l) ≡ Faulty Unknown
-  miscounted e = cond-false _ _ _ (ap (takes w) (sym count_args) ∙ e)
 
   pub answered : (v : Word) (r : Result Request Fault) → takes w (n - 1) ≡ true → w ≡ v
       → Answers l.bytes.now (worded v (args l) (rest l)) r → Answers l.bytes.now (by_word (Some w) (args l) (rest l)) r

@@ -1,5 +1,5 @@
 use Rattle.std.proofs.Common.{◌≡◌, ◌+◌, ◌-◌, ◌*◌, ◌<◌, get_or, drop, sym, refl, ap, ◌∙◌, arith}
-use Rattle.lines.proofs.Bytewise.{passes, fails, number_no_digits, number_large, value_grows}
+use Rattle.lines.proofs.Bytewise.{passes, number_large, value_grows}
 use Rattle.lines.proofs.fields.number.Goals as goal
 use Rattle.lines.specs.Numbers.{value, value_after}
 use Rattle.std.proofs.lemmas.List.{at_drop_more}
@@ -16,12 +16,6 @@ loop-byte-preserved c =
       ap (λ n. value_after n (drop (i + 1) token)) next ∙ whole,
       sym (passes 0 is_ascii_digit all_ascii_digits (λ _ _. refl) _ _ c.loop-byte-test.true (sym c.if-not-is_ascii_digit.ensures.value)) ∙ c.loop-byte.invariant.1,
     )
-
-pub returns-then-not-is_ascii_digit : goal.returns-then-not-is_ascii_digit
-returns-then-not-is_ascii_digit c =
-    sym (number_no_digits c.args.most c.args.top c.args.token.now
-    (sym c.loop-byte.invariant.1
-    ∙ fails 0 is_ascii_digit all_ascii_digits (λ _ _. refl) _ _ c.loop-byte-test.true (sym c.if-not-is_ascii_digit.ensures.value)))
 
 pub returns-in_err-checked_mul : goal.returns-in_err-checked_mul
 returns-in_err-checked_mul c =
