@@ -1,84 +1,48 @@
 -- The search for the end of the line.
-use Rattle.std.proofs.Common.{◌≡◌, ℕ, ◌+◌, ◌<◌, ◌≤◌, min, Bool, true, false, cond, ◌&&◌, eqb, List, [], ◌∷◌, length, get_or, take, drop, Some, None, Option, sym, refl, ap, ◌∙◌, arith}
+use Rattle.std.proofs.Common.{◌≡◌, ℕ, zero, suc, ◌<◌, Bool, true, false, cond, ◌&&◌, eqb, List, [], ◌∷◌, length, get_or, Some, None, Option, MatchOption, sym, refl, ap, ◌∙◌, ⊎_elim, arith}
 use Rattle.lines.specs.Tokens.{first_crlf, later}
-use Rattle.std.proofs.lemmas.List.{get_or-take, length-take, length-drop, drop_more}
-use Rattle.std.proofs.lemmas.Bool.{and_left, and_right, and_from, eq-eqb, ne_eqb}
+use Rattle.std.proofs.lemmas.Bool.{and_left, and_right, and_from, cases_eq, cond-true, cond-false, eq-eqb, ne_eqb}
 
--- A place so many places further on.
-abbrev pub shifted : ℕ → Option ℕ → Option ℕ
-shifted k None = None
-shifted k (Some n) = Some (k + n)
+-- A CR with an LF right behind it stands at this place.
+abbrev pub EndsAt : List ℕ → ℕ → Type 0
+EndsAt xs i = (get_or xs i 0 ≡ 13) × (get_or xs (suc i) 0 ≡ 10)
 
-pub shifted_none : (o : Option ℕ) → shifted 0 o ≡ o
-shifted_none None = refl
-shifted_none (Some n) = ap Some (omega arith)
+-- The place of the first of them, if there is one.
+abbrev pub FindsEnd : List ℕ → Option ℕ → Type 0
+FindsEnd xs r =
+    MatchOption r ((k : ℕ) → suc k < length xs → EndsAt xs k → ⊥)
+    (λ i. (suc i < length xs) × EndsAt xs i × ((k : ℕ) → k < i → EndsAt xs k → ⊥))
 
-pub shifted_later : (k : ℕ) (o : Option ℕ) → shifted k (later o) ≡ shifted (k + 1) o
-shifted_later k None = refl
-shifted_later k (Some n) = ap Some (omega arith)
-
--- Two bytes that are CR LF, or are not.
 and_true : (b : Bool) → (b && true) ≡ b
 and_true true = refl
 and_true false = refl
 
-pair : (a b : ℕ) (r : List ℕ) → first_crlf (a ∷ b ∷ r) ≡ cond (eqb a 13 && eqb b 10) (Some 0) (later (first_crlf (b ∷ r)))
-pair a b r = ap (λ t. cond (eqb a 13 && t) (Some 0) (later (first_crlf (b ∷ r)))) (and_true (eqb b 10))
-
--- At a place of a list that has one more behind it.
-module _ (xs : List ℕ) (i : ℕ) (l : i + 1 < length xs) where
-  step : first_crlf (drop i xs) ≡ cond (eqb (get_or xs i 0) 13 && eqb (get_or xs (i + 1) 0) 10) (Some 0) (later (first_crlf (drop (i + 1) xs)))
-  step =
-      let more = drop_more xs (i + 1) 0 l in
-      ap first_crlf (drop_more xs i 0 (omega arith))
-      ∙ ap (λ ys. first_crlf (get_or xs i 0 ∷ ys)) more
-      ∙ pair (get_or xs i 0) (get_or xs (i + 1) 0) (drop (i + 1 + 1) xs)
-      ∙ ap (λ ys. cond (eqb (get_or xs i 0) 13 && eqb (get_or xs (i + 1) 0) 10) (Some 0) (later (first_crlf ys))) (sym more)
-
--- A list of at most one byte has no CR LF.
 and_false : (b : Bool) → (b && false) ≡ false
 and_false true = refl
 and_false false = refl
 
-no_crlf : (xs : List ℕ) → length xs ≤ 1 → first_crlf xs ≡ None
-no_crlf [] h = refl
-no_crlf (a ∷ []) h = ap (λ t. cond t (Some 0) None) (and_false (eqb a 13))
-no_crlf (a ∷ b ∷ r) h = absurd (omega arith)
+module _ (a b : ℕ) (r : List ℕ) where
+  pair : first_crlf (a ∷ b ∷ r) ≡ cond (eqb a 13 && eqb b 10) (Some 0) (later (first_crlf (b ∷ r)))
+  pair = ap (λ t. cond (eqb a 13 && t) (Some 0) (later (first_crlf (b ∷ r)))) (and_true (eqb b 10))
 
--- The place of the first CR LF among the first n bytes, as a search from place i finds it.
-abbrev pub ahead : ℕ → List ℕ → ℕ → Option ℕ
-ahead n bytes i = shifted i (first_crlf (drop i (take n bytes)))
+  here : EndsAt (a ∷ b ∷ r) 0 → first_crlf (a ∷ b ∷ r) ≡ Some 0
+  here h = pair ∙ cond-true _ _ _ (and_from _ _ (eq-eqb a 13 h.0) (eq-eqb b 10 h.1))
 
-module _ (n : ℕ) (bytes : List ℕ) (i : ℕ) where
-  reaches : i + 1 < n → i + 1 < length bytes → i + 1 < length (take n bytes)
-  reaches a b = simp length-take (omega arith)
+  passed : (EndsAt (a ∷ b ∷ r) 0 → ⊥) → first_crlf (a ∷ b ∷ r) ≡ later (first_crlf (b ∷ r))
+  passed h =
+      let other : (eqb a 13 && eqb b 10) ≡ false = ⊎_elim
+      (λ (e : a ≡ 13). and_right (eqb a 13) (eqb b 10) (ne_eqb b 10 (λ f. h (e, f))))
+      (λ ne. and_left (eqb a 13) (eqb b 10) (ne_eqb a 13 ne))
+      (cases_eq a 13) in
+      pair ∙ cond-false _ _ _ other
 
-  tested : i + 1 < n → i + 1 < length bytes
-      → ahead n bytes i ≡ shifted i (cond (eqb (get_or bytes i 0) 13 && eqb (get_or bytes (i + 1) 0) 10) (Some 0) (later (first_crlf (drop (i + 1) (take n bytes)))))
-  tested a b =
-      ap (shifted i) (step (take n bytes) i (reaches a b))
-      ∙ ap (λ x. shifted i (cond (eqb x 13 && eqb (get_or (take n bytes) (i + 1) 0) 10) (Some 0) (later (first_crlf (drop (i + 1) (take n bytes))))))
-      (get_or-take n bytes i 0 (omega arith))
-      ∙ ap (λ x. shifted i (cond (eqb (get_or bytes i 0) 13 && eqb x 10) (Some 0) (later (first_crlf (drop (i + 1) (take n bytes))))))
-      (get_or-take n bytes (i + 1) 0 a)
-
-  pub end_here : i + 1 < n → i + 1 < length bytes → get_or bytes i 0 ≡ 13 → get_or bytes (i + 1) 0 ≡ 10 → ahead n bytes i ≡ Some i
-  end_here a b cr lf =
-      tested a b
-      ∙ ap (λ t. shifted i (cond t (Some 0) (later (first_crlf (drop (i + 1) (take n bytes)))))) (and_from _ _ (eq-eqb _ _ cr) (eq-eqb _ _ lf))
-      ∙ ap Some (omega arith)
-
-  passed : i + 1 < n → i + 1 < length bytes → (eqb (get_or bytes i 0) 13 && eqb (get_or bytes (i + 1) 0) 10) ≡ false → ahead n bytes i ≡ ahead n bytes (i + 1)
-  passed a b e =
-      tested a b
-      ∙ ap (λ t. shifted i (cond t (Some 0) (later (first_crlf (drop (i + 1) (take n bytes)))))) e
-      ∙ shifted_later i (first_crlf (drop (i + 1) (take n bytes)))
-
-  pub no_cr_here : i + 1 < n → i + 1 < length bytes → (get_or bytes i 0 ≡ 13 → ⊥) → ahead n bytes i ≡ ahead n bytes (i + 1)
-  no_cr_here a b e = passed a b (and_left _ _ (ne_eqb _ _ e))
-
-  pub no_lf_here : i + 1 < n → i + 1 < length bytes → (get_or bytes (i + 1) 0 ≡ 10 → ⊥) → ahead n bytes i ≡ ahead n bytes (i + 1)
-  no_lf_here a b e = passed a b (and_right _ _ (ne_eqb _ _ e))
-
-  pub no_end : min (length bytes) n ≤ i + 1 → ahead n bytes i ≡ None
-  no_end h = ap (shifted i) (no_crlf (drop i (take n bytes)) (simp (length-drop, length-take) (omega arith)))
+pub found_end : (xs : List ℕ) (r : Option ℕ) → FindsEnd xs r → r ≡ first_crlf xs
+found_end [] None h = refl
+found_end [] (Some i) h = absurd (omega (arith, h.0))
+found_end (a ∷ []) None h = sym (ap (λ t. cond t (Some 0) None) (and_false (eqb a 13)))
+found_end (a ∷ []) (Some i) h = absurd (omega (arith, h.0))
+found_end (a ∷ b ∷ r) None h =
+    ap later (found_end (b ∷ r) None (λ k l e. h (suc k) (omega arith) e)) ∙ sym (passed a b r (h 0 (omega arith)))
+found_end (a ∷ b ∷ r) (Some zero) h = sym (here a b r h.1)
+found_end (a ∷ b ∷ r) (Some (suc i)) h =
+    ap later (found_end (b ∷ r) (Some i) (omega (arith, h.0), h.1, λ k l e. h.2 (suc k) (omega arith) e)) ∙ sym (passed a b r (h.2 0 (omega arith)))

@@ -1,5 +1,5 @@
 -- The reading of a line by its tokens.
-use Rattle.std.proofs.Common.{◌≡◌, ℕ, suc, ◌+◌, ◌<◌, ◌≤◌, Bool, true, false, cond, eqb, List, [], ◌∷◌, length, get_or, take, drop, Some, None, Option, sym, refl, ap, ◌∙◌, arith}
+use Rattle.std.proofs.Common.{◌≡◌, ℕ, suc, ◌+◌, ◌<◌, ◌≤◌, Bool, true, false, cond, eqb, List, [], ◌∷◌, length, take, drop, Some, None, Option, refl, ap, ◌∙◌, arith}
 use Rattle.lines.specs.declared.Fault.TheVariants.{Unknown}
 use Rattle.lines.specs.declared.words.Word.{Word}
 use Rattle.lines.specs.declared.words.Word.TheVariants as word
@@ -30,7 +30,7 @@ crlf_inside (b ∷ bs) n e = crlf_at b bs n _ _ refl refl e (crlf_inside bs)
 pub line_inside : (bytes : List ℕ) (end : ℕ) → line_end bytes ≡ Some end → end + 2 ≤ length bytes
 line_inside bytes end e = omega (arith, crlf_inside (take 2048 bytes) end e, length-take 2048 bytes)
 
--- A line of no tokens, one of too many, and the others.
+-- A line of too many tokens.
 takes_few : (w : Word) (n : ℕ) → 5 < n → takes w n ≡ false
 takes_few word.Set n h = grind (arith, nat_tests)
 takes_few word.Add n h = grind (arith, nat_tests)
@@ -53,27 +53,9 @@ judged_many : (ts : List (List ℕ)) (rest : List ℕ) → 6 < length ts → jud
 judged_many [] rest h = refl
 judged_many (w ∷ args) rest h = by_word_many (named w) args rest (omega arith)
 
-judged_none : (ts : List (List ℕ)) (rest : List ℕ) → length ts ≡ 0 → judged ts rest ≡ Faulty Unknown
-judged_none [] rest h = refl
-judged_none (w ∷ args) rest h = absurd (omega arith)
-
-judged_some : (ts : List (List ℕ)) (rest : List ℕ) → 0 < length ts → judged ts rest ≡ by_word (named (get_or ts 0 [])) (drop 1 ts) rest
-judged_some [] rest h = absurd (omega arith)
-judged_some (w ∷ args) rest h = refl
-
 module _ (bytes : List ℕ) (end : ℕ) (e : line_end bytes ≡ Some end) where
   at_end : reading bytes ≡ judged (tokens (take end bytes)) (drop (end + 2) bytes)
   at_end = ap (λ o. read_at o bytes) e
 
   pub reading_many : 6 < length (tokens (take end bytes)) → reading bytes ≡ Faulty Unknown
   reading_many h = at_end ∙ judged_many (tokens (take end bytes)) (drop (end + 2) bytes) h
-
-  pub reading_none : length (tokens (take end bytes)) ≡ 0 → reading bytes ≡ Faulty Unknown
-  reading_none h = at_end ∙ judged_none (tokens (take end bytes)) (drop (end + 2) bytes) h
-
-  pub reading_word : (o : Option Word) → 0 < length (tokens (take end bytes)) → o ≡ named (get_or (tokens (take end bytes)) 0 [])
-      → reading bytes ≡ by_word o (drop 1 (tokens (take end bytes))) (drop (end + 2) bytes)
-  reading_word o some found =
-      at_end
-      ∙ judged_some (tokens (take end bytes)) (drop (end + 2) bytes) some
-      ∙ ap (λ o. by_word o (drop 1 (tokens (take end bytes))) (drop (end + 2) bytes)) (sym found)

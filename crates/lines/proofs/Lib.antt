@@ -1,5 +1,4 @@
 pub mod Back
-pub mod Behind
 pub mod Bytewise
 pub mod Cutting
 pub mod Ends

@@ -5,7 +5,7 @@ use Rattle.lines.specs.declared.tokens.Span.{Span}
 use Rattle.lines.specs.Requests.{Lies}
 use Rattle.lines.specs.Spans.{span_bytes, nth_span, Splits}
 use Rattle.lines.specs.Tokens.{tokens}
-use Rattle.std.proofs.lemmas.List.{drop-take, get_or-map, get_or-take, length-drop, length-map, length-take, length-take-le, take-take}
+use Rattle.std.proofs.lemmas.List.{drop-take, get_or-map, length-drop, length-map, length-take, take-take}
 
 -- A part that is cut out at a place lies there.
 pub lies_at : (bytes : List ℕ) (at len : ℕ) (part : Part) → at + len ≤ length bytes → part.at ≡ at → part.bytes.now ≡ take len (drop at bytes) → Lies bytes part
@@ -24,16 +24,9 @@ part_of_front bytes front at len fits =
     ∙ ap (take len) (drop-take at (front - at) bytes)
     ∙ take-take len (front - at) (drop at bytes) (omega arith)
 
--- The bytes of the first spans, by their number.
-pub nth_bytes : (line : List ℕ) (spans : List Span) (count i : ℕ) → count ≤ length spans → i < count
-    → get_or (map (span_bytes line) (take count spans)) i [] ≡ span_bytes line (nth_span spans i)
-nth_bytes line spans count i enough h =
-    let none : Span = record { at = 0; len = 0 } in
-    get_or-map (span_bytes line) (take count spans) i none [] (omega (arith, length-take-le count spans enough))
-    ∙ ap (span_bytes line) (get_or-take count spans i none h)
+-- The bytes of the spans, by their number.
+pub nth_bytes : (line : List ℕ) (spans : List Span) (i : ℕ) → i < length spans → get_or (map (span_bytes line) spans) i [] ≡ span_bytes line (nth_span spans i)
+nth_bytes line spans i h = get_or-map (span_bytes line) spans i (record { at = 0; len = 0 }) [] h
 
-pub count_bytes : (line : List ℕ) (spans : List Span) (count : ℕ) → count ≤ length spans → length (map (span_bytes line) (take count spans)) ≡ count
-count_bytes line spans count enough = length-map (take count spans) (span_bytes line) ∙ length-take-le count spans enough
-
-pub count_splits : (line : List ℕ) (spans : List Span) (count : ℕ) → Splits line spans count → length (tokens line) ≡ count
-count_splits line spans count split = sym (ap length split.all) ∙ count_bytes line spans count (omega (arith, split.room, split.few))
+pub count_splits : (line : List ℕ) (spans : List Span) → Splits line spans → length (tokens line) ≡ length spans
+count_splits line spans split = sym (ap length split.all) ∙ length-map spans (span_bytes line)

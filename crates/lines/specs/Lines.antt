@@ -1,12 +1,12 @@
 -- A line of the code with its tokens, and what its parts are read as.
-use Rattle.std.specs.Prelude.{◌≡◌, ℕ, ◌+◌, ◌<◌, ◌≤◌, true, false, List, [], length, take, drop, Some, None, Option, Result, MatchResult, slice_index_or}
+use Rattle.std.specs.Prelude.{◌≡◌, ℕ, ◌+◌, ◌<◌, true, false, List, [], length, take, drop, Some, None, Option, Result, MatchResult, slice_index_or}
 use Rattle.lines.specs.declared.Fault.{Fault}
 use Rattle.lines.specs.declared.Fault.TheVariants.{BadLine, BadData}
 use Rattle.lines.specs.declared.line.Line.{Line}
 use Rattle.lines.specs.declared.request.Part.{Part}
 use Rattle.lines.specs.Numbers.{key_of}
 use Rattle.lines.specs.Requests.{Lies}
-use Rattle.lines.specs.Spans.{Splits}
+use Rattle.lines.specs.Spans.{CutAt}
 use Rattle.lines.specs.Tokens.{tokens, crlf}
 use Rattle.std.specs.Str.{bytes_eq}
 
@@ -23,9 +23,8 @@ abbrev pub rest : Line → List ℕ
 rest l = drop (l.end + 2) l.bytes.now
 
 -- The line is cut into its tokens.
-pub record Cut (l : Line) : Type 0 where
-  pub ended : l.end + 2 ≤ length l.bytes.now
-  pub split : Splits (take l.end l.bytes.now) l.tokens.spans l.tokens.count
+abbrev pub Cut : Line → Type 0
+Cut l = CutAt l.bytes.now l.end l.tokens.items
 
 -- A token that should write a value: that value, or the fault of a bad line.
 abbrev pub Writes : {A : Type 0} → Option A → Result A Fault → Type 0

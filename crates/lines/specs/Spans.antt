@@ -15,9 +15,13 @@ nth_span spans i = slice_index_or spans i (record { at = 0; len = 0 })
 abbrev pub Inside : List ℕ → List Span → ℕ → Type 0
 Inside line spans count = (i : ℕ) → i < count → (nth_span spans i).at + (nth_span spans i).len ≤ length line
 
--- The first `count` of six spans are the tokens of the line, in their order.
-pub record Splits (line : List ℕ) (spans : List Span) (count : ℕ) : Type 0 where
-  pub room : length spans ≡ 6
-  pub few : count ≤ 6
-  pub inside : Inside line spans count
-  pub all : map (span_bytes line) (take count spans) ≡ tokens line
+-- At most six spans are the tokens of the line, in their order.
+pub record Splits (line : List ℕ) (spans : List Span) : Type 0 where
+  pub few : length spans ≤ 6
+  pub inside : Inside line spans (length spans)
+  pub all : map (span_bytes line) spans ≡ tokens line
+
+-- The line that ends at a place is cut into its tokens, and its CR LF lies within the bytes.
+pub record CutAt (bytes : List ℕ) (end : ℕ) (spans : List Span) : Type 0 where
+  pub ended : end + 2 ≤ length bytes
+  pub split : Splits (take end bytes) spans

@@ -1,15 +1,10 @@
 //! A line with its tokens, read by its word.
 
-ghost use Rattle.std.specs.Prelude.{◌≡◌, ◌+◌, ◌<◌, ◌≤◌, [], Some, slice_index_or};
-ghost use Rattle.lines.specs.Lines.{Cut, toks, args, rest, Writes, KeyRead, BlockRead, Ended};
-ghost use Rattle.lines.specs.Numbers.{number_of, exptime_of, good_keys};
-ghost use Rattle.lines.specs.Requests.{Answers, Lies, Placed, asked};
-ghost use Rattle.lines.specs.Reading.{alone, by_word, storage, retrieval, worded};
-ghost use Rattle.lines.specs.declared.words.Word.TheVariants as word;
+ghost use Rattle.lines.specs.Spans.{CutAt};
 
 use super::fields::{exptime, is_key, number};
-use super::request::{Keys, Part, Request};
-use super::tokens::Tokens;
+use super::request::{KEY_COUNT, Keys, Part, Request};
+use super::tokens::{Span, Tokens};
 use super::words::Word;
 use super::{Fault, Verb};
 
@@ -23,22 +18,30 @@ const BLOCK_TOP: u64 = 60_000;
 const CAS_TOP: u64 = 18_446_744_073_709_551_615;
 
 /// A line with its tokens, in the bytes that it was cut from; its CR stands at `end`.
-#[derive(Clone, Copy)]
+#[derive(Drop)]
 pub struct Line<'a> {
     pub bytes: &'a [u8],
     pub end: usize,
     pub tokens: Tokens,
+    ghost cut: { CutAt bytes.now end tokens.items },
 }
 
 impl<'a> Line<'a> {
+    ghost use Rattle.std.specs.Prelude.{◌≡◌, ◌<◌, ◌≤◌, [], Some, length, slice_index_or};
+    ghost use Rattle.lines.specs.Lines.{toks, args, rest, Writes, KeyRead, BlockRead, Ended};
+    ghost use Rattle.lines.specs.Numbers.{number_of, exptime_of, good_keys};
+    ghost use Rattle.lines.specs.Requests.{Answers, Lies, Placed, asked};
+    ghost use Rattle.lines.specs.Reading.{alone, by_word, storage, retrieval, worded};
+    ghost use Rattle.lines.specs.declared.words.Word.TheVariants as word;
+
+    // That there is an i-th token is a clause and no type: how many there are hangs on the word.
     /// The i-th token; the word is token 0.
     pub fn token(&self, i: usize) -> Part<'a>
-        requires cut { Cut self.now }
-        requires known { i < self.now.tokens.count }
+        requires known { i < length self.now.tokens.items }
         ensures text { result.bytes.now ≡ slice_index_or (toks self.now) i [] }
         ensures placed { Lies self.now.bytes.now result }
     {
-        let span = self.tokens.spans[i];
+        let span = self.tokens[i];
         let at = span.at;
         let end = at + span.len;
         Part {
@@ -49,8 +52,7 @@ impl<'a> Line<'a> {
 
     /// The i-th token as a key.
     fn key(&self, i: usize) -> Result<Part<'a>, Fault>
-        requires cut { Cut self.now }
-        requires known { i < self.now.tokens.count }
+        requires known { i < length self.now.tokens.items }
         ensures { KeyRead self.now i result }
     {
         let token = self.token(i);
@@ -61,11 +63,10 @@ impl<'a> Line<'a> {
         }
     }
 
+    // This and `exptime` are a token and a test each: one function for both, of a closure, is no shorter, and its clause says less.
     /// The i-th token as a number of at most `most` digits and at most `top`.
     fn number(&self, i: usize, most: usize, top: u64) -> Result<u64, Fault>
-        requires cut { Cut self.now }
-        requires known { i < self.now.tokens.count }
-        requires top { 9 ≤ top }
+        requires known { i < length self.now.tokens.items }
         ensures { Writes (number_of most top (slice_index_or (toks self.now) i [])) result }
     {
         number(self.token(i).bytes, most, top).ok_or(Fault::BadLine)
@@ -73,8 +74,7 @@ impl<'a> Line<'a> {
 
     /// The i-th token as an exptime.
     fn exptime(&self, i: usize) -> Result<i32, Fault>
-        requires cut { Cut self.now }
-        requires known { i < self.now.tokens.count }
+        requires known { i < length self.now.tokens.items }
         ensures { Writes (exptime_of (slice_index_or (toks self.now) i [])) result }
     {
         exptime(self.token(i).bytes).ok_or(Fault::BadLine)
@@ -82,25 +82,17 @@ impl<'a> Line<'a> {
 
     /// The data block of so many bytes, if just that and its CR LF stand behind the line.
     fn block(&self, size: usize) -> Result<Part<'a>, Fault>
-        requires cut { Cut self.now }
-        requires small { size ≤ 60000 }
         ensures { BlockRead self.now size result }
     {
         let at = self.end + 2;
-        let end = at + size;
-        if self.bytes.len() == end + 2 && self.bytes[end] == b'\r' && self.bytes[end + 1] == b'\n' {
-            Ok(Part {
-                bytes: &self.bytes[at..end],
-                at,
-            })
-        } else {
-            Err(Fault::BadData)
+        match self.bytes[at..].strip_suffix(b"\r\n") {
+            Some(bytes) if bytes.len() == size => Ok(Part { bytes, at }),
+            _ => Err(Fault::BadData),
         }
     }
 
     /// Whether nothing stands behind the line.
     fn alone(&self) -> Result<(), Fault>
-        requires cut { Cut self.now }
         ensures { Ended self.now result }
     {
         if self.bytes.len() == self.end + 2 {
@@ -112,8 +104,7 @@ impl<'a> Line<'a> {
 
     /// A storage command with this verb.
     fn storage(&self, verb: Verb) -> Result<Request<'a>, Fault>
-        requires cut { Cut self.now }
-        requires enough { 5 ≤ self.now.tokens.count }
+        requires enough { 5 ≤ length self.now.tokens.items }
         ensures { Answers self.now.bytes.now (storage (Some verb) (args self.now) (rest self.now)) result }
     {
         let key = self.key(1)?;
@@ -132,8 +123,7 @@ impl<'a> Line<'a> {
 
     /// A cas: a storage command with its number last.
     fn cas(&self) -> Result<Request<'a>, Fault>
-        requires cut { Cut self.now }
-        requires enough { 6 ≤ self.now.tokens.count }
+        requires enough { 6 ≤ length self.now.tokens.items }
         ensures { Answers self.now.bytes.now (worded word.Cas (args self.now) (rest self.now)) result }
     {
         let number = self.number(5, 20, CAS_TOP)?;
@@ -142,49 +132,33 @@ impl<'a> Line<'a> {
 
     /// Whether each token behind the word is a good key.
     fn has_keys(&self) -> bool
-        requires cut { Cut self.now }
         ensures { result ≡ good_keys (args self.now) }
     {
-        for i in 1..self.tokens.count {
-            if !is_key(self.token(i).bytes) {
-                return false;
-            }
-        }
-        true
+        (1..self.tokens.len()).all(|i| is_key(self.token(i).bytes))
     }
 
     /// A get or, with `cas`, a gets.
     fn retrieval(&self, cas: bool) -> Result<Request<'a>, Fault>
-        requires cut { Cut self.now }
-        requires some { 2 ≤ self.now.tokens.count }
-        requires few { self.now.tokens.count ≤ 5 }
+        requires some { 2 ≤ length self.now.tokens.items }
+        requires few { length self.now.tokens.items ≤ 5 }
         ensures { Answers self.now.bytes.now (retrieval cas (args self.now) (rest self.now)) result }
     {
         if !self.has_keys() {
             return Err(Fault::BadLine);
         }
         self.alone()?;
-        let end = self.end;
-        let line = &self.bytes[0..end];
-        let found = self.tokens;
-        let spans = [
-            found.spans[1],
-            found.spans[2],
-            found.spans[3],
-            found.spans[4],
-        ];
-        let keys = Keys {
-            line,
-            spans,
-            count: found.count - 1,
-        };
+        let found = &self.tokens[1..];
+        let count = found.len();
+        let mut spans = [Span::default(); KEY_COUNT];
+        spans[..count].copy_from_slice(found);
+        let line = &self.bytes[..self.end];
+        let keys = Keys { line, spans, count };
         Ok(Request::Get { cas, keys })
     }
 
     /// A delete.
     fn delete(&self) -> Result<Request<'a>, Fault>
-        requires cut { Cut self.now }
-        requires enough { 2 ≤ self.now.tokens.count }
+        requires enough { 2 ≤ length self.now.tokens.items }
         ensures { Answers self.now.bytes.now (worded word.Delete (args self.now) (rest self.now)) result }
     {
         let key = self.key(1)?;
@@ -194,8 +168,7 @@ impl<'a> Line<'a> {
 
     /// A touch.
     fn touch(&self) -> Result<Request<'a>, Fault>
-        requires cut { Cut self.now }
-        requires enough { 3 ≤ self.now.tokens.count }
+        requires enough { 3 ≤ length self.now.tokens.items }
         ensures { Answers self.now.bytes.now (worded word.Touch (args self.now) (rest self.now)) result }
     {
         let key = self.key(1)?;
@@ -206,7 +179,6 @@ impl<'a> Line<'a> {
 
     /// A command that is its word alone.
     fn bare(&self, request: Request<'a>) -> Result<Request<'a>, Fault>
-        requires cut { Cut self.now }
         requires placed { Placed self.now.bytes.now request }
         ensures { Answers self.now.bytes.now (alone (rest self.now) (asked request.entry)) result }
     {
@@ -216,11 +188,10 @@ impl<'a> Line<'a> {
 
     /// The request of a line with this word.
     pub fn request(&self, word: Word) -> Result<Request<'a>, Fault>
-        requires cut { Cut self.now }
-        requires some { 1 ≤ self.now.tokens.count }
+        requires some { 1 ≤ length self.now.tokens.items }
         ensures { Answers self.now.bytes.now (by_word (Some word) (args self.now) (rest self.now)) result }
     {
-        if !word.takes(self.tokens.count - 1) {
+        if !word.takes(self.tokens.len() - 1) {
             return Err(Fault::Unknown);
         }
         match word {

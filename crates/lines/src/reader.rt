@@ -16,10 +16,8 @@ use super::words::find_word;
 pub fn read<'a>(bytes: &'a [u8]) -> Result<Request<'a>, Fault>
     ensures { Answers bytes.now (reading bytes.now) result }
 {
-    match line_end(bytes) {
-        Some(end) => read_line(bytes, end),
-        None => Err(Fault::Unknown),
-    }
+    let end = line_end(bytes).ok_or(Fault::Unknown)?;
+    read_line(bytes, end)
 }
 
 /// The same for a caller who has asked `line_end` already, so that the line is not searched twice.
@@ -29,24 +27,18 @@ pub fn read_line<'a>(bytes: &'a [u8], end: usize) -> Result<Request<'a>, Fault>
     if end > bytes.len() || bytes.len() - end < 2 {
         return Err(Fault::Unknown);
     }
-    let Some(tokens) = split(&bytes[0..end]) else {
-        return Err(Fault::Unknown);
-    };
-    if tokens.count == 0 {
-        return Err(Fault::Unknown);
-    }
+    let tokens = split(&bytes[..end]).ok_or(Fault::Unknown)?;
     let line = Line { bytes, end, tokens };
-    match find_word(line.token(0).bytes) {
-        Some(word) => line.request(word),
-        None => Err(Fault::Unknown),
+    if line.tokens.is_empty() {
+        return Err(Fault::Unknown);
     }
+    let word = find_word(line.token(0).bytes).ok_or(Fault::Unknown)?;
+    line.request(word)
 }
 
 /// What `reading` is, in the words of the protocol: requests that its grammar writes read back as their commands, with any extra spaces,
 /// and whatever is read has good keys and each number in its range.
-pub fn reading_stands() -> u8
+pub fn reading_stands()
     ensures back { ReadsBack }
     ensures lawful { ReadsLawful }
-{
-    0
-}
+{}

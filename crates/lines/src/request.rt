@@ -14,9 +14,9 @@ pub struct Part<'a> {
 }
 
 /// The most keys that a get may have.
-const KEY_COUNT: usize = 4;
+pub const KEY_COUNT: usize = 4;
 
-/// The keys of a get: the first `count` spans of its line.
+/// The keys of a get: the first `count` spans of its line. An `ArrayVec` of them is not `Copy`, as a request is.
 #[derive(Clone, Copy)]
 pub struct Keys<'a> {
     pub line: &'a [u8],
@@ -57,18 +57,11 @@ impl<'a> Keys<'a> {
         ensures here { KeyAt self.now i result }
         ensures placed { (bytes : List ℕ) → KeysOf bytes self.now → NthKey bytes self.now i result }
     {
-        if i >= self.count || i >= self.spans.len() {
+        if i >= self.count {
             return None;
         }
-        let span = self.spans[i];
-        let at = span.at;
-        if at > self.line.len() || span.len > self.line.len() - at {
-            return None;
-        }
-        let end = at + span.len;
-        Some(Part {
-            bytes: &self.line[at..end],
-            at,
-        })
+        let span = self.spans.get(i)?;
+        let bytes = self.line.get(span.at..)?.get(..span.len)?;
+        Some(Part { bytes, at: span.at })
     }
 }

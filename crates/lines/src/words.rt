@@ -57,10 +57,8 @@ const WORDS: [(&[u8], Word); 12] = [
 pub fn find_word(token: &[u8]) -> Option<Word>
     ensures { result ≡ named token.now }
 {
-    for (text, word) in &WORDS {
-        if token == *text {
-            return Some(*word);
-        }
-    }
-    None
+    WORDS
+        .iter()
+        .find(|(text, _)| token == *text)
+        .map(|(_, word)| *word)
 }

@@ -9,17 +9,14 @@ mod notation;
 mod sayings;
 
 use notation::decoded;
-use sayings::saying;
+use sayings::Saying;
 use std::io;
 
 fn main(rt: HostRuntime) -> io::Result<()> {
-    let mut number = 0u64;
-    for line in rt.lines(rt.alloc()) {
+    for (before, line) in rt.lines(rt.alloc()).enumerate() {
         let text = line?;
         let bytes = decoded(rt.alloc(), text.as_bytes())?;
-        let said = saying(rt.alloc(), bytes.as_slice())?;
-        number = number.saturating_add(1);
-        println!(rt; "{number} {said}")?;
+        println!(rt; "{} {}", before + 1, Saying(&bytes))?;
     }
     Ok(())
 }

@@ -18,56 +18,41 @@ fn hex(digit: u8) -> u8
     }
 }
 
-/// The number that stands in `text` from `at` on, and the place behind the bracket that closes it.
-fn count(text: &[u8], at: usize) -> (usize, usize) {
-    let mut number = 0usize;
-    let mut next = at;
-    while next < text.len() {
-        let byte = text[next];
-        next += 1;
-        if byte == b')' {
-            break;
-        }
-        number = number
+/// The number that digits write, and at most `MOST`.
+fn count(digits: &[u8]) -> usize {
+    digits.iter().fold(0usize, |number, digit| {
+        number
             .saturating_mul(10)
-            .saturating_add(hex(byte) as usize)
-            .min(MOST);
-    }
-    (number, next)
+            .saturating_add(usize::from(hex(*digit)))
+            .min(MOST)
+    })
 }
 
 /// The bytes that `text` stands for.
 pub fn decoded(heap: Global, text: &[u8]) -> Result<Vec<u8>, AllocError> {
     let mut bytes = Vec::new(heap);
     let mut last = 0u8;
-    let mut at = 0;
-    while at < text.len() {
-        let byte = text[at];
-        at += 1;
-        let mark = if at < text.len() { text[at] } else { 0 };
-        if byte == b'\\' && mark == b'(' {
-            let (times, next) = count(text, at);
-            for _ in 1..times {
-                bytes.push(last)?;
-            }
-            at = next.max(at);
-        } else {
-            last = byte;
-            if byte == b'\\' {
-                at += 1;
-                last = match mark {
-                    b'r' => b'\r',
-                    b'n' => b'\n',
-                    b't' => b'\t',
-                    other => other,
-                };
-                if mark == b'x' && at <= text.len() && text.len() - at >= 2 {
-                    last = hex(text[at]) * 16 + hex(text[at + 1]);
-                    at += 2;
+    let mut rest = text;
+    while let [first, behind @ ..] = rest {
+        (last, rest) = match rest {
+            [b'\\', b'(', mark @ ..] => {
+                let end = mark.iter().position(|byte| *byte == b')');
+                let (digits, behind) = mark.split_at(end.unwrap_or(mark.len()));
+                for _ in 1..count(digits) {
+                    bytes.push(last)?;
                 }
+                rest = behind.split_first().map_or(behind, |(_, behind)| behind);
+                continue;
             }
-            bytes.push(last)?;
-        }
+            [b'\\', b'x', high, low, behind @ ..] => (hex(*high) * 16 + hex(*low), behind),
+            [b'\\', b'r', behind @ ..] => (b'\r', behind),
+            [b'\\', b'n', behind @ ..] => (b'\n', behind),
+            [b'\\', b't', behind @ ..] => (b'\t', behind),
+            [b'\\', other, behind @ ..] => (*other, behind),
+            [b'\\'] => (0, behind),
+            _ => (*first, behind),
+        };
+        bytes.push(last)?;
     }
     Ok(bytes)
 }

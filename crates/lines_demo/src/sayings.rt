@@ -1,98 +1,103 @@
 //! What a request says, as text.
 
-use lines::{Fault, Keys, Part, Request, Verb, line_end, read};
-use std::alloc::{AllocError, Global};
+use lines::{Fault, Part, Request, Verb, line_end, read};
+use std::fmt;
 
 /// The longest part that is shown whole.
 const SHOWN: usize = 20;
 
-/// A part of a request and its place; of a long one the first bytes and its length.
-fn spelled(heap: Global, part: Part) -> Result<String, AllocError> {
-    let mut text = String::new(heap);
-    for byte in part.bytes.iter().take(SHOWN) {
-        if byte.is_ascii_graphic() {
-            text.push(char::from(*byte))?;
-        } else {
-            let escaped = format!(in heap; "\\x{byte:02x}")?;
-            text.push_str(escaped.as_str())?;
-        }
-    }
-    let at = part.at;
-    let len = part.bytes.len();
-    if len > SHOWN {
-        format!(in heap; "{text}..{len}@{at}")
-    } else {
-        format!(in heap; "{text}@{at}")
-    }
-}
-
-/// The keys of a get.
-fn listed(heap: Global, keys: Keys) -> Result<String, AllocError> {
-    let mut text = String::new(heap);
-    for i in 0..4usize {
-        if let Some(key) = keys.nth(i) {
-            let spelling = spelled(heap, key)?;
-            text.push(' ')?;
-            text.push_str(spelling.as_str())?;
-        }
-    }
-    Ok(text)
-}
-
-/// A verb, with the number of a cas.
-fn named(heap: Global, verb: Verb) -> Result<String, AllocError> {
-    match verb {
-        Verb::Set => format!(in heap; "set"),
-        Verb::Add => format!(in heap; "add"),
-        Verb::Replace => format!(in heap; "replace"),
-        Verb::Cas(number) => format!(in heap; "cas {number}"),
-    }
-}
+/// The bytes of a request, printed as what they say.
+#[derive(Drop)]
+pub struct Saying<'a>(pub &'a [u8]);
 
 /// A request with all its values.
-fn told(heap: Global, request: Request) -> Result<String, AllocError> {
-    match request {
-        Request::Get { cas, keys } => {
-            let word = if cas { "gets" } else { "get" };
-            let list = listed(heap, keys)?;
-            format!(in heap; "{word}{list}")
+#[derive(Drop)]
+struct Told<'a>(Request<'a>);
+
+/// A verb, with the number of a cas.
+#[derive(Drop)]
+struct Named(Verb);
+
+/// A part of a request and its place; of a long one the first bytes and its length.
+#[derive(Drop)]
+struct Spelled<'a>(Part<'a>);
+
+impl fmt::Display for Saying<'_> {
+    fn fmt<W: fmt::Write>(&self, f: &mut fmt::Formatter<W>) -> fmt::Result {
+        if line_end(self.0).is_none() {
+            return write!(f, "no line end");
         }
-        Request::Store {
-            verb,
-            key,
-            flags,
-            exptime,
-            block,
-        } => {
-            let word = named(heap, verb)?;
-            let name = spelled(heap, key)?;
-            let data = spelled(heap, block)?;
-            format!(in heap; "{word} {name} flags {flags} exptime {exptime} block {data}")
+        match read(self.0) {
+            Ok(request) => write!(f, "{}", Told(request)),
+            Err(Fault::Unknown) => write!(f, "unknown"),
+            Err(Fault::BadLine) => write!(f, "bad line"),
+            Err(Fault::BadData) => write!(f, "bad data"),
         }
-        Request::Delete { key } => {
-            let name = spelled(heap, key)?;
-            format!(in heap; "delete {name}")
-        }
-        Request::Touch { key, exptime } => {
-            let name = spelled(heap, key)?;
-            format!(in heap; "touch {name} exptime {exptime}")
-        }
-        Request::FlushAll => format!(in heap; "flush_all"),
-        Request::Version => format!(in heap; "version"),
-        Request::Quit => format!(in heap; "quit"),
-        Request::Stats => format!(in heap; "stats"),
     }
 }
 
-/// What the bytes of a request say.
-pub fn saying(heap: Global, bytes: &[u8]) -> Result<String, AllocError> {
-    if line_end(bytes).is_none() {
-        return format!(in heap; "no line end");
+impl fmt::Display for Told<'_> {
+    fn fmt<W: fmt::Write>(&self, f: &mut fmt::Formatter<W>) -> fmt::Result {
+        match self.0 {
+            Request::Get { cas, keys } => {
+                write!(f, "{}", if cas { "gets" } else { "get" })?;
+                for key in (0..keys.count).filter_map(|i| keys.nth(i)) {
+                    write!(f, " {}", Spelled(key))?;
+                }
+                Ok(())
+            }
+            Request::Store {
+                verb,
+                key,
+                flags,
+                exptime,
+                block,
+            } => {
+                let verb = Named(verb);
+                let key = Spelled(key);
+                let block = Spelled(block);
+                write!(
+                    f,
+                    "{verb} {key} flags {flags} exptime {exptime} block {block}"
+                )
+            }
+            Request::Delete { key } => write!(f, "delete {}", Spelled(key)),
+            Request::Touch { key, exptime } => {
+                write!(f, "touch {} exptime {exptime}", Spelled(key))
+            }
+            Request::FlushAll => write!(f, "flush_all"),
+            Request::Version => write!(f, "version"),
+            Request::Quit => write!(f, "quit"),
+            Request::Stats => write!(f, "stats"),
+        }
     }
-    match read(bytes) {
-        Ok(request) => told(heap, request),
-        Err(Fault::Unknown) => format!(in heap; "unknown"),
-        Err(Fault::BadLine) => format!(in heap; "bad line"),
-        Err(Fault::BadData) => format!(in heap; "bad data"),
+}
+
+impl fmt::Display for Named {
+    fn fmt<W: fmt::Write>(&self, f: &mut fmt::Formatter<W>) -> fmt::Result {
+        match self.0 {
+            Verb::Set => write!(f, "set"),
+            Verb::Add => write!(f, "add"),
+            Verb::Replace => write!(f, "replace"),
+            Verb::Cas(number) => write!(f, "cas {number}"),
+        }
+    }
+}
+
+impl fmt::Display for Spelled<'_> {
+    fn fmt<W: fmt::Write>(&self, f: &mut fmt::Formatter<W>) -> fmt::Result {
+        let Part { bytes, at } = self.0;
+        for byte in bytes.iter().take(SHOWN) {
+            if byte.is_ascii_graphic() {
+                write!(f, "{}", char::from(*byte))?;
+            } else {
+                write!(f, "\\x{byte:02x}")?;
+            }
+        }
+        let len = bytes.len();
+        if len > SHOWN {
+            write!(f, "..{len}")?;
+        }
+        write!(f, "@{at}")
     }
 }

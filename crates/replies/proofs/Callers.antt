@@ -1,13 +1,13 @@
 -- What a caller of the writer cites: room for every reply that the table can give, and a reply made up of its lines.
-use Rattle.std.proofs.Common.{◌≡◌, ◌<◌, ◌≤◌, Bool, List, [], ◌∷◌, ◌++◌, length, take, drop, sym, refl, ap, ◌∙◌, subst, arith}
+use Rattle.std.proofs.Common.{◌≡◌, ◌<◌, ◌≤◌, Bool, List, [], ◌∷◌, ◌++◌, length, take, drop, sym, ap, ◌∙◌, subst, arith}
 use Rattle.std.specs.List.{flat_map, AllByRecursion}
-use Rattle.std.proofs.lemmas.List.{append-nil, take-append-drop, flat_map_more}
+use Rattle.std.proofs.lemmas.List.{take-append-drop, flat_map_more}
 use Rattle.replies.specs.declared.output.Writer.{Writer}
 use Rattle.replies.specs.Reply.{Shown, Reply, Values}
 use Rattle.replies.specs.Render.{render, value_lines, end_line}
 use Rattle.replies.specs.Growth.{held, Room, Wrote, Replied}
 use Rattle.replies.specs.Fair.{Fair, FairShown}
-use Rattle.replies.proofs.Writes.{both}
+use Rattle.replies.proofs.Writes.{both, nothing}
 use Rattle.replies.proofs.Fits.{value_short, values_short, every_reply_fits}
 
 -- a writer at the start of a buffer that is large enough
@@ -34,14 +34,7 @@ room_end numbered xs {u} {v} few fair start p =
 
 -- no record is written yet
 pub values_none : (numbered : Bool) (u : Writer) → Wrote (flat_map (value_lines numbered) []) u u
-values_none numbered u =
-    record {
-      buffer = refl;
-      size = refl;
-      count = omega arith;
-      written = sym (append-nil (take u.len (held u)));
-      rest = refl;
-    }
+values_none numbered u = nothing u
 
 -- one record more
 pub values_more : (numbered : Bool) (xs : List Shown) (s : Shown) {u v w : Writer} → Wrote (flat_map (value_lines numbered) xs) u v → Wrote (value_lines numbered s) v w → Wrote (flat_map (value_lines numbered) (xs ++ (s ∷ []))) u w

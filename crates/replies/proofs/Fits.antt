@@ -1,5 +1,5 @@
 -- Every reply that the table can give fits 18,432 bytes.
-use Rattle.std.proofs.Common.{ℕ, ◌*◌, ◌^◌, ◌<◌, ◌≤◌, Bool, true, false, List, [], ◌∷◌, ◌++◌, length, codes, decimal, arith, lit≤}
+use Rattle.std.proofs.Common.{ℕ, ◌+◌, ◌*◌, ◌^◌, ◌<◌, ◌≤◌, Bool, true, false, List, [], ◌∷◌, ◌++◌, length, codes, decimal, arith, lit≤}
 use Rattle.std.specs.List.{flat_map, AllByRecursion}
 use Rattle.std.proofs.lemmas.List.{length-append}
 use Rattle.std.proofs.lemmas.Fmt.{length-decimal-le}
@@ -7,7 +7,7 @@ use Rattle.replies.specs.declared.kinds.Text.{Text}
 use Rattle.replies.specs.declared.kinds.Text.TheVariants.{Error, BadLine, BadData, TooLarge, OutOfMemory, Stored, NotStored, Exists, NotFound, Deleted, Touched, Done, Version}
 use Rattle.replies.specs.declared.kinds.Figures.{Figures}
 use Rattle.replies.specs.Reply.{Shown, Line, Values, Statistics, Silent}
-use Rattle.replies.specs.Render.{text_line, cas_part, value_lines, end_line, stat_lines}
+use Rattle.replies.specs.Render.{text_line, cas_part, value_lines, end_line, stat_line, stat_lines}
 use Rattle.replies.specs.Fair.{FairShown, FairFigures, EveryReplyFits}
 use Rattle.replies.proofs.Lengths.{length_value_head, length_value_lines, length_stat_line, length_holding, length_leaving, length_asking, length_statistics}
 
@@ -52,42 +52,28 @@ line_short Touched = lit≤ tt
 line_short Done = lit≤ tt
 line_short Version = lit≤ tt
 
+-- a figure's line takes at most 28 bytes beside its name
+stat_short : (label : List ℕ) (n : ℕ) → n < 2 ^ 64 → length (stat_line label n) ≤ length label + 28
+stat_short label n h = omega (arith, length_stat_line label n, digits_64 n h)
+
 -- the statistics take at most 14 lines of 44 bytes, and END
 pub statistics_short : (f : Figures) → FairFigures f → length (stat_lines f ++ end_line) ≤ 621
 statistics_short f fair =
-    let l0 = length_stat_line (codes "limit_pages") f.limit_pages in
-    let d0 = digits_64 f.limit_pages fair.limit_pages in
-    let l1 = length_stat_line (codes "free_pages") f.free_pages in
-    let d1 = digits_64 f.free_pages fair.free_pages in
-    let l2 = length_stat_line (codes "curr_items") f.curr_items in
-    let d2 = digits_64 f.curr_items fair.curr_items in
-    let l3 = length_stat_line (codes "total_items") f.total_items in
-    let d3 = digits_64 f.total_items fair.total_items in
-    let l4 = length_stat_line (codes "replaced") f.«replaced» in
-    let d4 = digits_64 f.«replaced» fair.replaced in
-    let l5 = length_stat_line (codes "deleted") f.«deleted» in
-    let d5 = digits_64 f.«deleted» fair.deleted in
-    let l6 = length_stat_line (codes "flushed") f.«flushed» in
-    let d6 = digits_64 f.«flushed» fair.flushed in
-    let l7 = length_stat_line (codes "expired") f.«expired» in
-    let d7 = digits_64 f.«expired» fair.expired in
-    let l8 = length_stat_line (codes "evictions") f.«evictions» in
-    let d8 = digits_64 f.«evictions» fair.evictions in
-    let l9 = length_stat_line (codes "dropped") f.«dropped» in
-    let d9 = digits_64 f.«dropped» fair.dropped in
-    let l10 = length_stat_line (codes "get_hits") f.get_hits in
-    let d10 = digits_64 f.get_hits fair.get_hits in
-    let l11 = length_stat_line (codes "get_misses") f.get_misses in
-    let d11 = digits_64 f.get_misses fair.get_misses in
-    let l12 = length_stat_line (codes "curr_connections") f.curr_connections in
-    let d12 = digits_64 f.curr_connections fair.curr_connections in
-    let l13 = length_stat_line (codes "hash_slots") f.hash_slots in
-    let d13 = digits_64 f.hash_slots fair.hash_slots in
-    let h = length_holding f in
-    let l = length_leaving f in
-    let a = length_asking f in
-    let s = length_statistics f in
-    omega arith
+    let a = stat_short (codes "limit_pages") f.limit_pages fair.limit_pages in
+    let b = stat_short (codes "free_pages") f.free_pages fair.free_pages in
+    let c = stat_short (codes "curr_items") f.curr_items fair.curr_items in
+    let d = stat_short (codes "total_items") f.total_items fair.total_items in
+    let e = stat_short (codes "replaced") f.«replaced» fair.replaced in
+    let g = stat_short (codes "deleted") f.«deleted» fair.deleted in
+    let h = stat_short (codes "flushed") f.«flushed» fair.flushed in
+    let i = stat_short (codes "expired") f.«expired» fair.expired in
+    let j = stat_short (codes "evictions") f.evictions fair.evictions in
+    let k = stat_short (codes "dropped") f.«dropped» fair.dropped in
+    let l = stat_short (codes "get_hits") f.get_hits fair.get_hits in
+    let m = stat_short (codes "get_misses") f.get_misses fair.get_misses in
+    let n = stat_short (codes "curr_connections") f.curr_connections fair.curr_connections in
+    let o = stat_short (codes "hash_slots") f.hash_slots fair.hash_slots in
+    omega (arith, length_holding f, length_leaving f, length_asking f, length_statistics f)
 
 pub every_reply_fits : EveryReplyFits 18432
 every_reply_fits (Line t) fair = let l = line_short t in omega arith

@@ -1,14 +1,9 @@
 -- How long each line is.
-use Rattle.std.proofs.Common.{◌≡◌, ℕ, ◌+◌, ◌/◌, ◌^◌, ◌<◌, ◌≤◌, Bool, List, ◌++◌, length, codes, decimal, ap, arith}
+use Rattle.std.proofs.Common.{◌≡◌, ℕ, ◌+◌, Bool, List, ◌++◌, length, codes, decimal, arith}
 use Rattle.std.proofs.lemmas.List.{length-append}
-use Rattle.std.proofs.lemmas.Fmt.{decimal_step}
 use Rattle.replies.specs.declared.kinds.Figures.{Figures}
 use Rattle.replies.specs.Reply.{Shown}
 use Rattle.replies.specs.Render.{value_head, cas_part, value_lines, end_line, stat_line, holding_lines, leaving_lines, asking_lines, stat_lines}
-
--- a number has one digit more than its front
-pub length_front : (n : ℕ) → 10 ≤ n → n < 2 ^ 64 → length (decimal n) ≡ length (decimal (n / 10)) + 1
-length_front n large fits = simp length-append at (ap length (decimal_step n large fits))
 
 -- how long a record's first line is, up to the length of its data
 pub length_value_head : (key : List ℕ) (flags bytes : ℕ) → length (value_head key flags bytes) ≡ 8 + length key + length (decimal flags) + length (decimal bytes)

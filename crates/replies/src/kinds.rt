@@ -22,6 +22,7 @@ pub enum Text {
 }
 
 impl Text {
+    // A match and no Display: the writer takes bytes, and the words are what a client matches.
     /// The words of a fixed line.
     pub fn words(self) -> &'static [u8]
         ensures { result.now ≡ words self }

@@ -1,6 +1,6 @@
 //! The writer: what it has written stands at the start of the caller's buffer.
 
-ghost use Rattle.std.specs.Prelude.{◌≡◌};
+ghost use Rattle.std.specs.Prelude.{◌≡◌, is_some, unwrap_or};
 ghost use Rattle.replies.specs.Growth.{Room, Wrote, front};
 ghost use Rattle.replies.specs.Reading.{ReadsBack};
 ghost use Rattle.replies.specs.Render.{value_head, cas_part, value_lines, end_line, render};
@@ -11,7 +11,7 @@ mod stats;
 
 use super::kinds::{Figures, Text};
 
-/// The buffer, and how much of it is written.
+/// The buffer, and how much of it is written: the caller hands over fixed memory, and a `Vec` would take a heap.
 #[derive(Drop)]
 pub struct Writer<'a> {
     out: &'a mut [u8],
@@ -44,13 +44,13 @@ impl<'a> Writer<'a> {
         self.put(b"\r\n");
     }
 
-    /// Writes a record shown, with its cas number where `numbered`; key and data are copied from where they lie.
-    pub fn value(&mut self, key: &[u8], flags: u32, data: &[u8], cas: u64, numbered: bool)
-        requires { Room (value_lines numbered (record { key = key.now; flags = flags; block = «data».now; cas = cas })) self.old }
-        ensures { Wrote (value_lines numbered (record { key = key.now; flags = flags; block = «data».now; cas = cas })) self.old self.new }
+    /// Writes a record shown, with its cas number where one is given; key and data are copied from where they lie.
+    pub fn value(&mut self, key: &[u8], flags: u32, data: &[u8], cas: Option<u64>)
+        requires { Room (value_lines (is_some cas) (record { key = key.now; flags = flags; block = «data».now; cas = unwrap_or cas 0 })) self.old }
+        ensures { Wrote (value_lines (is_some cas) (record { key = key.now; flags = flags; block = «data».now; cas = unwrap_or cas 0 })) self.old self.new }
     {
         self.value_head(key, flags, data.len());
-        self.cas_part(cas, numbered);
+        self.cas_part(cas);
         self.put(b"\r\n");
         self.put(data);
         self.put(b"\r\n");
@@ -70,9 +70,22 @@ impl<'a> Writer<'a> {
         requires { Room (render (Statistics figures.now)) self.old }
         ensures { Wrote (render (Statistics figures.now)) self.old self.new }
     {
-        self.holding_figures(figures);
-        self.leaving_figures(figures);
-        self.asking_figures(figures);
+        self.stats(&[
+            (b"limit_pages", figures.limit_pages),
+            (b"free_pages", figures.free_pages),
+            (b"curr_items", figures.curr_items),
+            (b"total_items", figures.total_items),
+            (b"replaced", figures.replaced),
+            (b"deleted", figures.deleted),
+            (b"flushed", figures.flushed),
+            (b"expired", figures.expired),
+            (b"evictions", figures.evictions),
+            (b"dropped", figures.dropped),
+            (b"get_hits", figures.get_hits),
+            (b"get_misses", figures.get_misses),
+            (b"curr_connections", figures.curr_connections),
+            (b"hash_slots", figures.hash_slots),
+        ]);
         self.end();
     }
 
@@ -84,19 +97,19 @@ impl<'a> Writer<'a> {
         self.put(b"VALUE ");
         self.put(key);
         self.put(b" ");
-        self.put_number(flags as u64);
+        self.put_number(flags);
         self.put(b" ");
-        self.put_number(bytes as u64);
+        self.put_number(bytes);
     }
 
-    /// Writes the cas number behind the length, where one is asked for.
-    fn cas_part(&mut self, cas: u64, numbered: bool)
-        requires { Room (cas_part numbered cas) self.old }
-        ensures { Wrote (cas_part numbered cas) self.old self.new }
+    /// Writes the cas number behind the length, where one is given.
+    fn cas_part(&mut self, cas: Option<u64>)
+        requires { Room (cas_part (is_some cas) (unwrap_or cas 0)) self.old }
+        ensures { Wrote (cas_part (is_some cas) (unwrap_or cas 0)) self.old self.new }
     {
-        if numbered {
+        if let Some(number) = cas {
             self.put(b" ");
-            self.put_number(cas);
+            self.put_number(number);
         }
     }
 }

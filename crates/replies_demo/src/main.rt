@@ -2,7 +2,7 @@
 
 #![tactic(auto)]
 
-ghost use Rattle.std.specs.Prelude.{◌≤◌, [], ◌∷◌, map, length};
+ghost use Rattle.std.specs.Prelude.{◌≤◌, [], ◌∷◌, map};
 ghost use Rattle.replies.specs.Fair.{Fair};
 ghost use Rattle.replies.specs.Growth.{Replied};
 ghost use Rattle.replies.specs.Reply.{Line, Values, Statistics};
@@ -14,6 +14,12 @@ use replies::output::Writer;
 use std::io;
 use std::io::Write;
 
+/// How many bytes a buffer has: room for every reply that the table can give.
+const BYTES: usize = 18_432;
+
+/// The buffer that replies are written into.
+type Buffer = [u8; BYTES];
+
 /// A record to show.
 #[derive(Clone, Copy)]
 struct Item<'a> {
@@ -23,9 +29,9 @@ struct Item<'a> {
     cas: u64,
 }
 
+// A function for each kind of reply, since its contract names the reply; a closure that writes would hide it.
 /// Writes a fixed line, and tells its length.
-fn fixed(reply: &mut [u8], line: Text) -> usize
-    requires { 18432 ≤ length reply.old }
+fn fixed(reply: &mut Buffer, line: Text) -> usize
     ensures within { result ≤ 18432 }
     ensures replied { Replied (Line line) result reply.old reply.new }
 {
@@ -35,23 +41,22 @@ fn fixed(reply: &mut [u8], line: Text) -> usize
 }
 
 /// Writes the records of `items`, and tells how many bytes that took.
-fn found(reply: &mut [u8], items: &[Item], numbered: bool) -> usize
-    requires in_bounds { 18432 ≤ length reply.old }
+fn found(reply: &mut Buffer, items: &[Item], numbered: bool) -> usize
     requires fair { Fair (Values numbered (map shown_of items.now)) }
     ensures within { result ≤ 18432 }
     ensures replied { Replied (Values numbered (map shown_of items.now)) result reply.old reply.new }
 {
     let mut writer = Writer::new(reply);
     for item in items {
-        writer.value(item.key, item.flags, item.data, item.cas, numbered);
+        let cas = numbered.then_some(item.cas);
+        writer.value(item.key, item.flags, item.data, cas);
     }
     writer.end();
     writer.len()
 }
 
 /// Writes the statistics, and tells how many bytes that took.
-fn counted(reply: &mut [u8], figures: &Figures) -> usize
-    requires in_bounds { 18432 ≤ length reply.old }
+fn counted(reply: &mut Buffer, figures: &Figures) -> usize
     requires fair { Fair (Statistics figures.now) }
     ensures within { result ≤ 18432 }
     ensures replied { Replied (Statistics figures.now) result reply.old reply.new }
@@ -107,11 +112,11 @@ fn sample_figures() -> Figures {
 }
 
 fn main(rt: HostRuntime) -> io::Result<()> {
-    let mut reply = [b'#'; 18_432];
+    let mut reply = [b'#'; BYTES];
     let mut out = rt.stdout();
     for line in LINES {
         let n = fixed(&mut reply, line);
-        out.write_all(&reply[0..n])?;
+        out.write_all(&reply[..n])?;
     }
     let items = [
         Item {
@@ -127,14 +132,12 @@ fn main(rt: HostRuntime) -> io::Result<()> {
             cas: 18_446_744_073_709_551_615,
         },
     ];
-    let n = found(&mut reply, &items, false);
-    out.write_all(&reply[0..n])?;
-    let n = found(&mut reply, &items, true);
-    out.write_all(&reply[0..n])?;
-    let n = found(&mut reply, &[], false);
-    out.write_all(&reply[0..n])?;
+    for (shown, numbered) in [(&items[..], false), (&items[..], true), (&[][..], false)] {
+        let n = found(&mut reply, shown, numbered);
+        out.write_all(&reply[..n])?;
+    }
     let n = counted(&mut reply, &sample_figures());
-    out.write_all(&reply[0..n])?;
+    out.write_all(&reply[..n])?;
     let n = found(&mut reply, &[LARGEST; 4], true);
     println!(rt;
         "The longest reply of a get takes {n} of {} bytes.",

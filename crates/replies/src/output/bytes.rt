@@ -1,9 +1,9 @@
 //! Bytes and numbers, as they come.
 
-ghost use Rattle.std.specs.Prelude.{[], ◌∷◌, decimal};
 ghost use Rattle.replies.specs.Growth.{Room, Wrote};
 
 use super::Writer;
+use itoa::{Buffer, Integer};
 
 impl<'a> Writer<'a> {
     /// Copies `bytes` behind what is written.
@@ -17,25 +17,12 @@ impl<'a> Writer<'a> {
         self.len = to;
     }
 
-    /// Writes one byte.
-    pub(super) fn put_byte(&mut self, byte: u8)
-        requires { Room (byte ∷ []) self.old }
-        ensures { Wrote (byte ∷ []) self.old self.new }
+    /// Writes `n` in decimal, with no leading zeros.
+    pub(super) fn put_number<N: Integer>(&mut self, n: N)
+        requires { Room (N.text n) self.old }
+        ensures { Wrote (N.text n) self.old self.new }
     {
-        self.out[self.len] = byte;
-        self.len += 1;
-    }
-
-    /// Writes `n` in decimal, with no leading zeros: the front of the number, then its last digit.
-    pub(super) fn put_number(&mut self, n: u64)
-        requires { Room (decimal n) self.old }
-        ensures { Wrote (decimal n) self.old self.new }
-    {
-        if n < 10 {
-            self.put_byte(b'0' + n as u8);
-        } else {
-            self.put_number(n / 10);
-            self.put_byte(b'0' + (n % 10) as u8);
-        }
+        let mut buffer = Buffer::new();
+        self.put(buffer.format(n).as_bytes());
     }
 }

@@ -1,15 +1,12 @@
-use Rattle.std.proofs.Common.{◌≡◌, ℕ, ◌-◌, ◌<◌, List, length, take, sym, ap, ◌∙◌, subst, arith}
-use Rattle.lines.proofs.Judging.{line_inside, reading_many, reading_none, reading_word}
-use Rattle.lines.proofs.Places.{count_splits}
+use Rattle.std.proofs.Common.{◌≡◌, ◌<◌, length, take, Err, None, Some, Option, sym, ap, ◌∙◌, arith}
+use Rattle.lines.proofs.Judging.{line_inside, reading_many}
 use Rattle.lines.proofs.reader.read_line.Goals as goal
 use Rattle.lines.proofs.reader.read_line.Goals.{then-end-bytes-via-then-end-bytes, then-end-bytes-via-else-end-bytes+then-bytes-end-lt2}
-use Rattle.lines.specs.Requests.{Answers}
+use Rattle.lines.specs.declared.Fault.{Fault}
+use Rattle.lines.specs.Command.{Faulty}
 use Rattle.lines.specs.Tokens.{tokens}
-use Rattle.lines.specs.Words.{named}
-
--- The line as the code cuts it out.
-front : (bytes : List ℕ) (end : ℕ) → take (end - 0) bytes ≡ take end bytes
-front bytes end = let same : end - 0 ≡ end = omega arith in ap (λ n. take n bytes) same
+use Rattle.std.proofs.lemmas.Result.{err_from_is_err_and}
+use Rattle.std.specs.Option.{ok_or}
 
 pub returns-then-end-bytes : goal.returns-then-end-bytes
 returns-then-end-bytes c = λ e.
@@ -19,30 +16,14 @@ returns-then-end-bytes c = λ e.
       | then-end-bytes-via-else-end-bytes+then-bytes-end-lt2 w ↦ absurd (omega (arith, w.if-bytes-end-lt2.true))
     ]
 
-pub returns-in_default : goal.returns-in_default
-returns-in_default c = λ e.
-    reading_many c.args.bytes.now c.args.end e
-    (omega (arith, c.in_default.ensures, ap (λ ls. length (tokens ls)) (front c.args.bytes.now c.args.end)))
+-- An error that stands for a value that is not there.
+missing : {A : Type 0} (o : Option A) (f g : Fault) → Err g ≡ ok_or o f → (o ≡ None) × (g ≡ f)
+missing None f g e = (cc, cc)
+missing (Some x) f g e = (cc, cc)
 
-pub returns-then-tokens-eq0 : goal.returns-then-tokens-eq0
-returns-then-tokens-eq0 c = λ e.
-    let same = ap (λ ls. length (tokens ls)) (front c.args.bytes.now c.args.end) in
-    reading_none c.args.bytes.now c.args.end e
-    (sym same ∙ count_splits _ _ _ c.in-Some.ensures ∙ c.if-tokens-eq0.true)
-
-pub returns-in-Some-find_word : goal.returns-in-Some-find_word
-returns-in-Some-find_word c = λ e.
-    let bytes = c.args.bytes.now in
-    let end = c.args.end in
-    let same = ap (λ ls. length (tokens ls)) (front bytes end) in
-    let some : 0 < length (tokens (take end bytes)) = omega (arith, same, count_splits _ _ _ c.in-Some.ensures) in
-    let says = reading_word bytes end e _ some (c.in-Some-find_word.ensures ∙ ap named c.token.ensures.text) in
-    subst (λ reading. Answers bytes reading c.request.result) (sym says) c.request.ensures
-
-pub returns-in-None : goal.returns-in-None
-returns-in-None c = λ e.
-    let bytes = c.args.bytes.now in
-    let end = c.args.end in
-    let same = ap (λ ls. length (tokens ls)) (front bytes end) in
-    let some : 0 < length (tokens (take end bytes)) = omega (arith, same, count_splits _ _ _ c.in-Some.ensures) in
-    reading_word bytes end e _ some (c.in-None.ensures ∙ ap named c.token.ensures.text)
+pub returns-in_err-tokens : goal.returns-in_err-tokens
+returns-in_err-tokens c = λ e.
+    let p = err_from_is_err_and c.from_residual.result c.from_residual.ensures.1 in
+    let none = missing c.split.result _ _ c.in_err-tokens.ensures.value in
+    let many : 6 < length (tokens (take c.args.end c.args.bytes.now)) = rw none.0 at c.split.ensures in
+    rw (p.1, p.2) (reading_many c.args.bytes.now c.args.end e many ∙ ap Faulty (sym none.1))

@@ -1,9 +1,8 @@
-use Rattle.std.proofs.Common.{◌-◌, length}
-use Rattle.lines.proofs.Splitting.{Sofar}
+use Rattle.lines.proofs.Splitting.{Ahead}
 use Rattle.lines.proofs.tokens.split.Given as goal
 
-abbrev pub invariant-loop-at : goal.invariant-loop-at
-invariant-loop-at l = Sofar l.line l.spans l.count l.at
-
-abbrev pub decreases-loop-at : goal.decreases-loop-at
-decreases-loop-at l = length l.line - l.at
+abbrev pub invariant-loop-piece : goal.invariant-loop-piece
+invariant-loop-piece l =
+    (goal.iterator-loop-piece).can_next l.piece-iterator
+    × (goal.iterator-loop-piece).is_finite l.piece-iterator
+    × Ahead (goal.iterator-loop-piece).next_gives l.piece-iterator l.line l.found.items l.at

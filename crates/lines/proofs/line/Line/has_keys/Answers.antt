@@ -1,27 +1,17 @@
-use Rattle.std.proofs.Common.{◌<◌, ◌≤◌, [], length, sym, refl, ap, ◌∙◌, arith}
-use Rattle.lines.proofs.Bytewise.{passes, fails}
+use Rattle.std.proofs.Common.{◌-◌, [], length, get_or, refl, ◌∙◌, arith, rules}
+use Rattle.lines.proofs.Bytewise.{keys_from}
 use Rattle.lines.proofs.Lined.{count_tokens}
 use Rattle.lines.proofs.line.Line.has_keys.Goals as goal
 use Rattle.lines.specs.Lines.{toks}
-use Rattle.lines.specs.Numbers.{good_key, good_keys}
-use Rattle.std.proofs.lemmas.List.{at_drop_all}
-
-pub loop-i-preserved : goal.loop-i-preserved
-loop-i-preserved c =
-    let line = c.args.self.now in
-    let here : c.loop-i.i < length (toks line) = omega (arith, count_tokens line c.requires.cut) in
-    sym (passes [] good_key good_keys (λ _ _. refl) (toks line) c.loop-i.i here (ap good_key (sym c.token.ensures.text) ∙ sym c.if-not-is_key.ensures))
-    ∙ c.loop-i.invariant
-
-pub returns-then-not-is_key : goal.returns-then-not-is_key
-returns-then-not-is_key c =
-    let line = c.args.self.now in
-    let here : c.loop-i.i < length (toks line) = omega (arith, count_tokens line c.requires.cut) in
-    sym (fails [] good_key good_keys (λ _ _. refl) (toks line) c.loop-i.i here (ap good_key (sym c.token.ensures.text) ∙ sym c.if-not-is_key.ensures))
-    ∙ c.loop-i.invariant
+use Rattle.lines.specs.Numbers.{good_key}
+use Rattle.std.proofs.lemmas.Iterator.{YieldsList-from_range}
+use Rattle.std.proofs.lemmas.Iterator.Search.{all_from_yields_List}
+use borrow.Author.Tests.{tests}
 
 pub returns : goal.returns
 returns c =
     let line = c.args.self.now in
-    let past : length (toks line) ≤ c.loop-i.i = omega (arith, count_tokens line c.requires.cut) in
-    sym (at_drop_all good_keys (toks line) c.loop-i.i past) ∙ c.loop-i.invariant
+    let n = length (toks line) in
+    all_from_yields_List (λ i. good_key (get_or (toks line) i [])) _ _ _ c.all.ensures.ran (YieldsList-from_range 1 c.len.result (n - 1) refl (omega (arith, c.len.ensures.value, count_tokens line line.cut)))
+    (λ x b q k. search (rules, tests))
+    ∙ keys_from (toks line) 1 (n - 1) refl

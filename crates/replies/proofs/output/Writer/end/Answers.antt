@@ -4,9 +4,5 @@ use Rattle.replies.specs.Reading.{read_back}
 use Rattle.replies.proofs.ReadingBack.{reads_back}
 use Rattle.replies.proofs.output.Writer.end.Goals as goal
 
-pub returns : goal.returns
-returns c =
-    record {
-      wrote = c.put.ensures;
-      readable = λ numbered xs all is. ap (read_back numbered) c.put.ensures.written ∙ reads_back (front c.args.self.now) numbered xs all is;
-    }
+pub returns-clause-readable : goal.returns-clause-readable
+returns-clause-readable c = λ numbered xs all is. ap (read_back numbered) c.put.ensures.written ∙ reads_back (front c.args.self.now) numbered xs all is
