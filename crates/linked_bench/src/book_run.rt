@@ -7,7 +7,8 @@ use crate::words::word;
 use crate::{MOST, SLOTS};
 use linked_rows::{Arena, Book, Entry, Text};
 
-/// A book with the memory that it is lent.
+/// A book with the memory that it is lent. The demonstration has one of its own, which is walked and not timed: what
+/// the two programs share is `Book`, and one struct for both would hold what each of them lacks.
 #[derive(Drop)]
 pub struct Shelf<'a> {
     book: Book,

@@ -5,7 +5,6 @@ mod book_run;
 mod words;
 
 use book_run::Shelf;
-use chained::fnv1a;
 use linked_rows::{Arena, Entry};
 use std::time::Instant;
 use std::{env, io};
@@ -42,7 +41,7 @@ fn run(rt: &HostRuntime, size: u32, lookups: u32, timed: bool) -> io::Result<()>
     for i in 0..size {
         let letters = word(i);
         memory.extend_from_slice(&letters)?;
-        rows.push(row(i, &letters))?;
+        rows.push(Entry::new(i.wrapping_mul(16), &letters))?;
     }
     let mut heads = vec![in heap; 0u32; SLOTS]?;
     let arena = Arena { bytes: &memory };
@@ -50,16 +49,6 @@ fn run(rt: &HostRuntime, size: u32, lookups: u32, timed: bool) -> io::Result<()>
         return Ok(());
     };
     measure(rt, &mut shelf, lookups, timed)
-}
-
-// A row for the key of a number.
-fn row(i: u32, letters: &[u8]) -> Entry {
-    Entry {
-        at: i.wrapping_mul(16),
-        len: 16,
-        hash: fnv1a(letters),
-        ..Entry::default()
-    }
 }
 
 fn measure(rt: &HostRuntime, shelf: &mut Shelf, lookups: u32, timed: bool) -> io::Result<()> {

@@ -1,8 +1,6 @@
 //! Thousands of entries and visitors come, are asked for, and go, and each answer is checked against a simple list.
 #![tactic(auto)]
 
-ghost use Rattle.std.specs.Prelude.{◌≤◌, length};
-
 mod draws;
 mod numbers;
 mod plain;
@@ -39,7 +37,7 @@ fn main(rt: HostRuntime) -> io::Result<()> {
     for i in 0..ROWS {
         let letters = texts::letters(i);
         memory.extend_from_slice(&letters)?;
-        entries.push(entry(i * 16, texts::text(&letters, i)))?;
+        entries.push(Entry::new(i * 16, texts::text(&letters, i)))?;
     }
     let mut heads = vec![in heap; 0u32; SLOTS]?;
     let arena = Arena { bytes: &memory };
@@ -57,16 +55,4 @@ fn main(rt: HostRuntime) -> io::Result<()> {
         Run::new(heap, numbers, 2).go(&rt)?;
     }
     Ok(())
-}
-
-// A row for a key at a place.
-fn entry(at: u32, key: &[u8]) -> Entry
-    requires { length key.now ≤ 16 }
-{
-    Entry {
-        at,
-        len: key.len() as u32,
-        hash: fnv1a(key),
-        ..Entry::default()
-    }
 }

@@ -1,11 +1,12 @@
 //! A row whose key is a text.
 
-ghost use Rattle.std.specs.Prelude.{false};
+ghost use Rattle.std.specs.Prelude.{◌≡◌, ◌^◌, ◌<◌, false, length};
 ghost use Rattle.std.proofs.Common.{rules};
+ghost use Rattle.chained.specs.Fnv.{fnv};
 ghost use Rattle.linked_rows.specs.Books.{mark};
 
 use crate::register::Marked;
-use chained::Chained;
+use chained::{Chained, fnv1a};
 use recency::Linked;
 
 /// A row that names where its key lies. It can be in a list and in a table.
@@ -18,6 +19,21 @@ pub struct Entry {
     pub link: u32,
     pub next: u32,
     pub prev: u32,
+}
+
+impl Entry {
+    /// A row for a key at a place. It is not held yet.
+    pub fn new(at: u32, key: &[u8]) -> Entry
+        requires { length key.now < 2 ^ 32 }
+        ensures { result ≡ record { at = at; len = length key.now; hash = fnv key.now; held = false; link = 0; next = 0; prev = 0 } }
+    {
+        Entry {
+            at,
+            len: key.len() as u32,
+            hash: fnv1a(key),
+            ..Entry::default()
+        }
+    }
 }
 
 impl Linked for Entry {

@@ -4,6 +4,7 @@ ghost use Rattle.sessions.specs.Admissions.{AsTheReferenceTable};
 ghost use Rattle.sessions.specs.Orders.{OrderStays};
 
 /// A list of sessions stays in the order of their last seconds, since the clock never runs back.
+#[tactic(auto, using(crate::proofs::Sweeps::order_stays))]
 pub fn order_stays()
     ensures { OrderStays }
 {}

@@ -1,4 +1,4 @@
-//! Which rows are open sessions and which are free. The rows and the slots lie with the roster's owner.
+//! Which rows are open sessions and which are free.
 
 mod moves;
 mod opening;
@@ -7,7 +7,8 @@ mod steps;
 use chained::Chains;
 use recency::RecencyList;
 
-/// The open sessions in a list and, by their callers, in a table; a list of the free rows; how many are open.
+/// The open sessions in a list and, by their callers, in a table; a list of the free rows; how many are open. A step takes
+/// the slots and rows beside it: between two steps the three may break what `Sessions`, their owner, states of them.
 #[derive(Clone, Copy)]
 pub struct Roster {
     pub(crate) open: RecencyList,

@@ -76,6 +76,7 @@ impl Chained for SessionRow {
 }
 
 /// Has a row say that this caller was served at this second.
+#[tactic(auto, using(recency::proofs::Columns::column_set, recency::proofs::Columns::column_kept))]
 pub fn note(rows: &mut [SessionRow], i: u32, caller: u32, second: u32)
     requires { i < length rows.old }
     ensures said { map session_of rows.new ≡ slice_set (map session_of rows.old) i (session caller second) }

@@ -1,4 +1,4 @@
-//! What is done with one session: found, entered, renewed, left.
+//! What is done with one session: entered, renewed, left.
 
 ghost use Rattle.std.specs.Prelude.{◌≡◌, ℕ, List, ◌∷◌, map, length, None, slice_index_or};
 ghost use Rattle.recency.specs.Numbers.{count, without};

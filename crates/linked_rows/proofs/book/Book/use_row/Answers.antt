@@ -1,6 +1,6 @@
-use Rattle.std.proofs.Common.{◌≡◌, ℕ, false, List, cond, eqb, ◌∷◌, sym, ap, ◌∙◌, subst, arith}
+use Rattle.std.proofs.Common.{◌≡◌, ℕ, false, List, cond, eqb, ◌∷◌, sym, ap, ◌∙◌, subst}
 use mathlib.Core.Logic.{∥∥₁_map}
-use Rattle.std.proofs.lemmas.Bool.{cond-true, cond-false, eq-eqb, ne_eqb}
+use Rattle.std.proofs.lemmas.Bool.{cond-true, eq-eqb}
 use Rattle.recency.specs.Numbers.{count, without}
 use Rattle.recency.proofs.Counts.{count_moved}
 use Rattle.chained.proofs.Moves.{recount}
@@ -42,16 +42,4 @@ returns-then-rows-i c =
       used = λ heads ids h.
           subst (λ xs. Sound (record { table = book.table; list = c.move_to_front.new.self }) heads new xs) (sym (cond-true (eqb (count i ids) 1) (i ∷ without i ids) ids (eq-eqb (count i ids) 1 (here heads ids h)))) (moved heads ids h);
       sound = λ heads t. ∥∥₁_map t (λ s. (_, moved heads s.0 s.1));
-    }
-
-pub returns-else-rows-i : goal.returns-else-rows-i
-unfolding blank
-returns-else-rows-i c =
-    let i = c.args.i in
-    record {
-      used = λ heads ids h.
-          let away = mark_of mark c.args.rows.now c.args.i blank ids 0 c.requires.within h.held.marks (ap {B = ℕ} (λ t. cond t 1 0) c.if-rows-i.false) in
-          subst (λ xs. Sound c.args.self.now heads c.args.rows.now xs) (sym (cond-false (eqb (count i ids) 1) (i ∷ without i ids) ids (ne_eqb (count i ids) 1 (λ e. omega arith))))
-          h;
-      sound = λ heads t. t;
     }

@@ -1,6 +1,6 @@
 use Rattle.std.proofs.Common.{◌<◌, ◌≤◌, true, false, List, length, vec_items, sym, refl, ap, ◌∙◌, subst, ap₂, arith}
 use mathlib.Core.Logic.{∥∥₁_map}
-use Rattle.std.proofs.lemmas.Bool.{lt-ltb, le-ltb, le-leb, lt-leb, true≢false, false≢true}
+use Rattle.std.proofs.lemmas.Bool.{le-ltb, le-leb, lt-leb, true≢false, false≢true}
 use Rattle.chained.specs.Chains.{size}
 use Rattle.chained.specs.Growth.{grow_after}
 use Rattle.model.specs.Calls.{Session, of_caller, served}
@@ -10,22 +10,6 @@ use Rattle.sessions.specs.Rosters.{Shown}
 use Rattle.sessions.proofs.Shown.{placed_as, shown_back, not_found, spare_once, no_spare, verdict, shown_count}
 use Rattle.sessions.proofs.Laying.{shorter}
 use Rattle.sessions.proofs.sessions.Sessions.admit.Goals as goal
-
-pub returns-then-caller-gt-LAST_CALLER : goal.returns-then-caller-gt-LAST_CALLER
-returns-then-caller-gt-LAST_CALLER c =
-    record {
-      shown = λ xs s. (verdict c.args.caller xs true _ _ (lt-ltb 4194303 c.args.caller c.if-caller-gt-LAST_CALLER.true) refl refl, s);
-      grown = λ xs s e. absurd (false≢true e);
-      same = λ _. refl;
-    }
-
-pub returns-then-is_open : goal.returns-then-is_open
-returns-then-is_open c =
-    record {
-      shown = λ xs s. (verdict c.args.caller xs false true _ (le-ltb 4194303 c.args.caller c.if-caller-gt-LAST_CALLER.false) (sym (c.if-is_open.ensures xs s)) refl, s);
-      grown = λ xs s e. absurd (false≢true e);
-      same = λ _. refl;
-    }
 
 pub returns-in_default : goal.returns-in_default
 returns-in_default c =

@@ -1,4 +1,4 @@
-use Rattle.std.proofs.Common.{map, get_or, Some, None, vec_items, sym, refl, ap, ◌∙◌, arith}
+use Rattle.std.proofs.Common.{map, get_or, Some, vec_items, sym, ap, ◌∙◌, arith}
 use mathlib.Core.Logic.{∥∥₁_map}
 use Rattle.std.proofs.lemmas.Bool.{true≢false}
 use Rattle.chained.specs.Chains.{size}
@@ -6,16 +6,6 @@ use Rattle.sessions.specs.Rows.{session, session_of}
 use Rattle.sessions.specs.Admissions.{has_session}
 use Rattle.sessions.proofs.Shown.{placed_as, shown_back, shown_without, found}
 use Rattle.sessions.proofs.sessions.Sessions.close.Goals as goal
-
-pub returns-in_default : goal.returns-in_default
-returns-in_default c =
-    let col = map session_of (vec_items c.args.self.now.rows) in
-    record {
-      shown = λ xs s.
-          (ap (has_session c.args.caller) s.3 ∙ sym (found (λ i. get_or col i (session 0 0)) c.args.caller s.0 None (c.in_default.ensures s.0 s.1 s.2)), s);
-      size = refl;
-      same = λ _. refl;
-    }
 
 pub leave-requires : goal.leave-requires
 leave-requires c =

@@ -1,4 +1,4 @@
-use Rattle.std.proofs.Common.{map, get_or, Some, None, vec_items, sym, refl, ap, ◌∙◌, subst, arith}
+use Rattle.std.proofs.Common.{map, get_or, Some, vec_items, sym, refl, ap, ◌∙◌, subst, arith}
 use mathlib.Core.Logic.{∥∥₁_map}
 use Rattle.std.proofs.lemmas.List.{with_items_is}
 use Rattle.std.proofs.lemmas.Bool.{true≢false}
@@ -9,16 +9,6 @@ use Rattle.sessions.specs.Rosters.{Shown}
 use Rattle.sessions.specs.Admissions.{has_session}
 use Rattle.sessions.proofs.Shown.{placed_as, shown_as, found}
 use Rattle.sessions.proofs.sessions.Sessions.serve.Goals as goal
-
-pub returns-in_default : goal.returns-in_default
-returns-in_default c =
-    let col = map session_of (vec_items c.args.self.now.rows) in
-    record {
-      shown = λ xs s.
-          (ap (has_session c.args.caller) s.3 ∙ sym (found (λ i. get_or col i (session 0 0)) c.args.caller s.0 None (c.in_default.ensures s.0 s.1 s.2)), s);
-      size = refl;
-      same = λ _. refl;
-    }
 
 pub renew-requires : goal.renew-requires
 renew-requires c =
