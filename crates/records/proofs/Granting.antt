@@ -1,5 +1,5 @@
 -- What is shown when chunks are granted and returned: the same records. Assumes nothing.
-use Rattle.std.proofs.Common.{◌≡◌, ℕ, ◌+◌, ◌*◌, ◌<◌, ◌≤◌, ltb, List, [], ◌∷◌, map, length, get_or, is_some, IfSome, Some, None, Option, sym, refl, ap, ◌∙◌, subst, ⊎_elim, arith, MatchOption}
+use Rattle.std.proofs.Common.{◌≡◌, ℕ, ◌+◌, ◌*◌, ◌<◌, ◌≤◌, ltb, List, [], ◌∷◌, map, length, get_or, is_some, IfSome, Some, None, Option, sym, refl, ap, ◌∙◌, subst, ⊎_elim, arith, MatchOption, vec_items}
 use mathlib.Core.Logic.{∥∥₁_elim, ∥∥₁_map, ∥∥₁_prop}
 use lib.ListN.{length-map}
 use Rattle.std.specs.Option.{option_map}
@@ -26,12 +26,12 @@ use Rattle.model.specs.Store as model
 use Rattle.model.specs.Store.{Class}
 use Rattle.model.specs.Sound.{Numbered}
 use Rattle.records.specs.declared.records.Records.{Records}
-use Rattle.records.specs.Standing.{Standing}
+use Rattle.records.specs.Order.{InOrder}
 use Rattle.records.specs.Kept.{NoGrant, OnlyGrant}
 use Rattle.records.specs.Reading.{record_at}
 use Rattle.records.specs.Showing.{Cut, ShowsRecords}
 use Rattle.records.proofs.Chaining.{within}
-use Rattle.records.proofs.Indexing.{with_slab, reindexed_by}
+use Rattle.records.proofs.Indexing.{sound_of, unchanged, reindexed_by}
 use Rattle.records.proofs.Maps.{map_same}
 use Rattle.records.proofs.Turns.{told, same_records}
 
@@ -147,12 +147,12 @@ module _ (setup : Setup) (s : Slab) (sound : ∥ Sound s ∥₁) (memory : List 
 -- A CHUNK IS TAKEN
 
 -- the chunk at the front of the free ones is granted, if there is one
-module _ (t : Records) (standing : ∥ Standing t ∥₁) (new : Slab) (sound : ∥ Sound new ∥₁) (class : ℕ) (rests_are : rests (rows_of new) ≡ rests (rows_of t.slab)) where
+module _ (t : Records) (new : Slab) (sound : ∥ Sound new ∥₁) (class : ℕ) (rests_are : rests (rows_of new) ≡ rests (rows_of t.slab)) where
   abbrev Found : Option Grant → Type 0
   Found r = (ls : ℕ → List ℕ) → Lists t.slab ls → option_map (λ grant. grant.row) r ≡ foremost (ls (free_of class))
 
   was_sound : ∥ Sound t.slab ∥₁
-  was_sound = ∥∥₁_map standing (λ st. st.sound)
+  was_sound = sound_of t
 
   module _ (grant : Grant) (found : Found (Some grant)) (taken : Taken t.slab new class grant) where
     was_free : get_or (homes_of t.slab) grant.row 0 ≡ free_of class
@@ -161,11 +161,11 @@ module _ (t : Records) (standing : ∥ Standing t ∥₁) (new : Slab) (sound : 
     in_range : grant.row < length (homes_of t.slab)
     in_range = within (homes_of t.slab) grant.row (rw was_free (omega arith))
 
-    took_standing : ∥ Standing (with_slab t new) ∥₁
+    took_standing : ∥ InOrder new t.table (vec_items t.heads) ∥₁
     took_standing =
         let before = held_before t.slab new grant.row _ _ taken.shifted was_free in_range (free_not class) (granted_not class) in
         let after = held_after t.slab new grant.row _ _ taken.shifted was_free in_range (free_not class) (granted_not class) in
-        ∥∥₁_elim sound ∥∥₁_prop (λ z. ∥∥₁_map standing (λ st. record { sound = z; indexed = reindexed_by t new rests_are before after st.indexed }))
+        ∥∥₁_elim sound ∥∥₁_prop (λ z. ∥∥₁_map t.standing (λ st. record { sound = z; indexed = reindexed_by t new rests_are before after st.indexed }))
 
     took_only : NoGrant t.slab → OnlyGrant new grant
     took_only none i to h =
@@ -180,13 +180,13 @@ module _ (t : Records) (standing : ∥ Standing t ∥₁) (new : Slab) (sound : 
     took_shown : (setup : Setup) (memory : List ℕ) (ks : List Class) → ShowsRecords setup t.slab memory ks → ShowsRecords setup new memory ks
     took_shown = shows_shifted t.slab new grant.row _ _ taken.shifted was_free in_range (free_not class) (granted_not class) (λ e. omega arith) rests_are
 
-  pub take_standing : (r : Option Grant) → Found r → MatchOption r (new ≡ t.slab) (λ grant. Taken t.slab new class grant) → ∥ Standing (with_slab t new) ∥₁
-  take_standing None found same = subst (λ x. ∥ Standing (with_slab t x) ∥₁) (sym same) standing
+  pub take_standing : (r : Option Grant) → Found r → MatchOption r (new ≡ t.slab) (λ grant. Taken t.slab new class grant) → ∥ InOrder new t.table (vec_items t.heads) ∥₁
+  take_standing None found same = subst (λ x. ∥ InOrder x t.table (vec_items t.heads) ∥₁) (sym same) t.standing
   take_standing (Some grant) found taken = took_standing grant found taken
 
-  pub take_taken : (r : Option Grant) → MatchOption r (new ≡ t.slab) (λ grant. Taken t.slab new class grant) → MatchOption r (with_slab t new ≡ t) (λ grant. (grant.class ≡ class) × slab.Granted new grant)
-  take_taken None same = ap (with_slab t) same
-  take_taken (Some grant) taken = (taken.of, taken.granted)
+  pub take_taken : (r : Option Grant) (standing : ∥ InOrder new t.table (vec_items t.heads) ∥₁) → MatchOption r (new ≡ t.slab) (λ grant. Taken t.slab new class grant) → MatchOption r (record { slab = new; table = t.table; heads = t.heads; standing = standing } ≡ t) (λ grant. (grant.class ≡ class) × slab.Granted new grant)
+  take_taken None standing same = unchanged t new same standing
+  take_taken (Some grant) standing taken = (taken.of, taken.granted)
 
   pub take_layout : (r : Option Grant) → MatchOption r (new ≡ t.slab) (λ grant. Taken t.slab new class grant) → layout new ≡ layout t.slab
   take_layout None same = ap layout same

@@ -1,6 +1,5 @@
 -- What is shown when a granted chunk is filled: one record more, at the front of its class. Assumes nothing.
 use Rattle.std.proofs.Common.{◌≡◌, ℕ, ◌<◌, ◌≤◌, cond, eqb, List, [], ◌∷◌, map, length, get_or, set, None, vec_items, Vec, sym, refl, ap, ◌∙◌, subst, ⊎_elim, arith}
-use mathlib.Core.Logic.{∥∥₁_map}
 use lib.ListN.{length-map}
 use Rattle.std.specs.declared.alloc.Global.{Global}
 use Rattle.std.specs.List.{flat_map}
@@ -32,12 +31,13 @@ use Rattle.model.specs.Sound.{Numbered}
 use Rattle.model.proofs.Held.{On, first_none}
 use Rattle.model.proofs.Sound.{sound_insert}
 use Rattle.records.specs.declared.records.Records.{Records}
-use Rattle.records.specs.Standing.{Standing, Indexed}
+use Rattle.records.specs.Standing.{Indexed}
 use Rattle.records.specs.Kept.{GrantedTo}
 use Rattle.records.specs.Reading.{record_at, brought, ShowsClasses}
 use Rattle.records.specs.Showing.{Cut, ShowsRecords}
 use Rattle.records.proofs.Chaining.{unchained, with_rows, homes_same, lists_same, within}
 use Rattle.records.proofs.Granting.{granted_not, home_there, home_off, records_long, chunks_all}
+use Rattle.records.proofs.Indexing.{sound_of}
 use Rattle.records.proofs.Leaving.{alone, names_on}
 use Rattle.records.proofs.Telling.{by_columns, hashes_of}
 use Rattle.records.proofs.Turns.{told, same_records, shows_linked}
@@ -47,12 +47,12 @@ pub record_told : (s : Slab) (memory : List ℕ) (i : ℕ) → record_at (layout
 record_told s memory i = by_columns (layout s) (rows_of s) memory i
 
 -- the row i, which was granted, was filled, and then its chain was linked
-module _ (t : Records) (standing : ∥ Standing t ∥₁) (i class : ℕ) (granted : get_or (homes_of t.slab) i 0 ≡ granted_of class) (u : Slab) (went : Shifted t.slab u i (granted_of class) (held_of class)) (k b : ℕ) (tag : Tag) (told_of : Described (rows_of t.slab) (rows_of u) i k b tag) where
+module _ (t : Records) (i class : ℕ) (granted : get_or (homes_of t.slab) i 0 ≡ granted_of class) (u : Slab) (went : Shifted t.slab u i (granted_of class) (held_of class)) (k b : ℕ) (tag : Tag) (told_of : Described (rows_of t.slab) (rows_of u) i k b tag) where
   abbrev s : Slab
   s = t.slab
 
   was_sound : ∥ Sound s ∥₁
-  was_sound = ∥∥₁_map standing (λ st. st.sound)
+  was_sound = sound_of t
 
   pub in_range : i < length (homes_of s)
   in_range = within (homes_of s) i (rw granted (omega arith))

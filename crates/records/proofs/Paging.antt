@@ -1,5 +1,5 @@
 -- What is shown when a page is given to a class: the class has one page more. Assumes nothing.
-use Rattle.std.proofs.Common.{◌≡◌, ℕ, ◌+◌, ◌*◌, ◌/◌, ◌%◌, ◌<◌, ◌≤◌, Bool, true, false, cond, ◌&&◌, ltb, List, map, length, get_or, MatchBool, sym, refl, ap, ◌∙◌, subst, ⊎_elim, arith}
+use Rattle.std.proofs.Common.{◌≡◌, ℕ, ◌+◌, ◌*◌, ◌/◌, ◌%◌, ◌<◌, ◌≤◌, Bool, true, false, cond, ◌&&◌, ltb, List, map, length, get_or, MatchBool, sym, refl, ap, ◌∙◌, subst, ⊎_elim, arith, vec_items}
 use mathlib.Core.HLevel.{⊥_prop}
 use mathlib.Core.Logic.{∥∥₁_elim, ∥∥₁_map, ∥∥₁_prop}
 use lib.ListN.{length-map}
@@ -22,16 +22,16 @@ use Rattle.model.specs.Store.{Class}
 use Rattle.model.specs.Sound.{Numbered}
 use Rattle.model.proofs.Sound.{at_same, at_other, in_range, sound_page}
 use Rattle.records.specs.declared.records.Records.{Records}
-use Rattle.records.specs.Standing.{Standing}
+use Rattle.records.specs.Order.{InOrder}
 use Rattle.records.specs.Kept.{GrantedTo}
 use Rattle.records.specs.Reading.{record_of, record_at, shown_class, ShowsClasses}
 use Rattle.records.specs.Showing.{Cut, HasChunks, ShowsRecords}
-use Rattle.records.proofs.Indexing.{with_slab, reindexed_by}
+use Rattle.records.proofs.Indexing.{sound_of, unchanged, reindexed_by}
 use Rattle.records.proofs.Leaving.{names_on}
 use Rattle.records.proofs.Maps.{map_same}
 use Rattle.records.proofs.Turns.{told, same_records}
 
-module _ (t : Records) (standing : ∥ Standing t ∥₁) (new : Slab) (class : ℕ) (given : PageGiven t.slab new class) (rests_are : rests (rows_of new) ≡ rests (rows_of t.slab)) (some : 0 < get_or (layout t.slab).chunks class 0) (free : t.slab.given < t.slab.pages) where
+module _ (t : Records) (new : Slab) (class : ℕ) (given : PageGiven t.slab new class) (rests_are : rests (rows_of new) ≡ rests (rows_of t.slab)) (some : 0 < get_or (layout t.slab).chunks class 0) (free : t.slab.given < t.slab.pages) where
   abbrev s : Slab
   s = t.slab
 
@@ -42,7 +42,7 @@ module _ (t : Records) (standing : ∥ Standing t ∥₁) (new : Slab) (class : 
   n = get_or (layout s).chunks class 0
 
   was_sound : ∥ Sound s ∥₁
-  was_sound = ∥∥₁_map standing (λ st. st.sound)
+  was_sound = sound_of t
 
   few : class < 33
   few = ⊎_elim (λ lt. lt) (λ past. absurd (omega (arith, classes_few s was_sound class past))) (cases_lt class 33)
@@ -92,8 +92,8 @@ module _ (t : Records) (standing : ∥ Standing t ∥₁) (new : Slab) (class : 
       let off = other_page k (rw h (omega arith)) in
       home_other k off ∙ h ∙ ap held_of (sym (class_other k off))
 
-  pub page_standing : ∥ Sound new ∥₁ → ∥ Standing (with_slab t new) ∥₁
-  page_standing sound = ∥∥₁_elim sound ∥∥₁_prop (λ z. ∥∥₁_map standing (λ st. record { sound = z; indexed = reindexed_by t new rests_are page_before page_after st.indexed }))
+  pub page_standing : ∥ Sound new ∥₁ → ∥ InOrder new t.table (vec_items t.heads) ∥₁
+  page_standing sound = ∥∥₁_elim sound ∥∥₁_prop (λ z. ∥∥₁_map t.standing (λ st. record { sound = z; indexed = reindexed_by t new rests_are page_before page_after st.indexed }))
 
   pub page_granted : (i to : ℕ) → GrantedTo new i to → GrantedTo s i to
   page_granted i to h = (kept_home i (granted_of to) (omega arith) (λ e. omega arith) h).0
@@ -154,7 +154,7 @@ module _ (t : Records) (standing : ∥ Standing t ∥₁) (new : Slab) (class : 
 
 -- BY THE ANSWER
 
-module _ (t : Records) (standing : ∥ Standing t ∥₁) (new : Slab) (class : ℕ) (rests_are : rests (rows_of new) ≡ rests (rows_of t.slab)) where
+module _ (t : Records) (new : Slab) (class : ℕ) (rests_are : rests (rows_of new) ≡ rests (rows_of t.slab)) where
   abbrev Answer : Bool → Type 0
   Answer r = r ≡ (ltb t.slab.given t.slab.pages && ltb 0 (get_or (layout t.slab).chunks class 0))
 
@@ -167,24 +167,24 @@ module _ (t : Records) (standing : ∥ Standing t ∥₁) (new : Slab) (class : 
   a_chunk : Answer true → 0 < get_or (layout t.slab).chunks class 0
   a_chunk e = ltb-true _ _ (and_parts _ _ (sym e)).1
 
-  pub gave_standing : (r : Bool) → Answer r → Gave r → ∥ Sound new ∥₁ → ∥ Standing (with_slab t new) ∥₁
-  gave_standing true e g sound = page_standing t standing new class g rests_are (a_chunk e) (a_page e) sound
-  gave_standing false e g sound = subst (λ x. ∥ Standing (with_slab t x) ∥₁) (sym g) standing
+  pub gave_standing : (r : Bool) → Answer r → Gave r → ∥ Sound new ∥₁ → ∥ InOrder new t.table (vec_items t.heads) ∥₁
+  gave_standing true e g sound = page_standing t new class g rests_are (a_chunk e) (a_page e) sound
+  gave_standing false e g sound = subst (λ x. ∥ InOrder x t.table (vec_items t.heads) ∥₁) (sym g) t.standing
 
   pub gave_pages : (r : Bool) → Gave r → (new.pages ≡ t.slab.pages) × (new.given ≡ cond r (t.slab.given + 1) t.slab.given)
   gave_pages true g = (ap (λ l. l.pages) g.layout, ap (λ l. l.given) g.layout)
   gave_pages false g = (ap (λ s. s.pages) g, ap (λ s. s.given) g)
 
-  pub gave_same : (r : Bool) → Gave r → r ≡ false → with_slab t new ≡ t
-  gave_same true g e = absurd (true≢false e)
-  gave_same false g e = ap (with_slab t) g
+  pub gave_same : (standing : ∥ InOrder new t.table (vec_items t.heads) ∥₁) (r : Bool) → Gave r → r ≡ false → record { slab = new; table = t.table; heads = t.heads; standing = standing } ≡ t
+  gave_same standing true g e = absurd (true≢false e)
+  gave_same standing false g e = unchanged t new g standing
 
   pub gave_granted : (r : Bool) → Answer r → Gave r → (i to : ℕ) → GrantedTo new i to → GrantedTo t.slab i to
-  gave_granted true e g i to h = page_granted t standing new class g rests_are (a_chunk e) (a_page e) i to h
+  gave_granted true e g i to h = page_granted t new class g rests_are (a_chunk e) (a_page e) i to h
   gave_granted false e g i to h = ap (λ s. get_or (homes_of s) i 0) (sym g) ∙ h
 
   pub gave_shown : (r : Bool) → Answer r → Gave r → (setup : Setup) (memory : List ℕ) (ks : List Class) → ShowsRecords setup t.slab memory ks → Numbered setup class → r ≡ true → ShowsRecords setup new memory (model.with_page class ks)
-  gave_shown true e g setup memory ks sh num _ = page_shown t standing new class g rests_are (a_chunk e) (a_page e) setup memory ks sh num
+  gave_shown true e g setup memory ks sh num _ = page_shown t new class g rests_are (a_chunk e) (a_page e) setup memory ks sh num
   gave_shown false e g setup memory ks sh num is = absurd (true≢false (sym is))
 
   and_true : (a b : Bool) → b ≡ true → (a && b) ≡ a

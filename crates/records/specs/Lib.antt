@@ -1,3 +1,4 @@
+pub mod Order
 pub mod Reading
 pub mod Standing
 pub mod Showing

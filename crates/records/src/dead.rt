@@ -9,10 +9,7 @@ use slabs::{Row, RowTest};
 pub fn is_dead(expiry: Option<u64>, second: u32) -> bool
     ensures { result ≡ dead_at second expiry }
 {
-    match expiry {
-        Some(end) => end <= u64::from(second),
-        None => false,
-    }
+    expiry.is_some_and(|end| end <= u64::from(second))
 }
 
 /// The test of rows whether their record is dead at a second.

@@ -1,5 +1,8 @@
 //! The records with the memory that holds them, but for page memory, which is lent to each call that reads or writes bytes.
 
+ghost use Rattle.std.specs.Prelude.{vec_items};
+ghost use Rattle.records.specs.Order.{InOrder};
+
 mod finding;
 mod granting;
 mod growing;
@@ -18,4 +21,5 @@ pub struct Records {
     slab: Slab,
     table: Chains,
     heads: Vec<u32>,
+    ghost standing: { ∥ InOrder slab table (vec_items heads) ∥₁ },
 }

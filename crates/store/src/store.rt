@@ -1,7 +1,6 @@
 //! The store: the records with their plan, cas numbers and counts.
 
 ghost use Rattle.std.specs.Prelude.{◌≡◌, length};
-ghost use Rattle.records.specs.Standing.{Standing};
 
 mod finding;
 mod flushing;
@@ -30,5 +29,5 @@ pub struct RecordStore {
     counts: Counts,
     /// For each class a second before which none of its records is dead.
     soonest: [u64; 33],
-    ghost ok: { ∥ (Standing records × (length soonest ≡ 33)) ∥₁ },
+    ghost each: { length soonest ≡ 33 },
 }

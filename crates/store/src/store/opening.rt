@@ -32,7 +32,7 @@ impl RecordStore {
             plan,
             records,
             cas: 0,
-            counts: Counts::none(),
+            counts: Counts::default(),
             soonest: never(),
         }
     }

@@ -9,16 +9,16 @@ use Rattle.records.proofs.records.Records.grow_after.Goals as goal
 pub grow_after-requires : goal.grow_after-requires
 grow_after-requires c =
     let t = c.args.self.now in
-    ∥∥₁_map c.requires.standing (λ s. (map (λ row. row.chain) (rows_of t.slab), map (λ row. row.tag.hash) (rows_of t.slab), s.indexed.ids, holds_as (size t.table) s.indexed.ids c.deref.ensures.value refl refl s.indexed.kept))
+    ∥∥₁_map c.args.self.now.standing (λ s. (map (λ row. row.chain) (rows_of t.slab), map (λ row. row.tag.hash) (rows_of t.slab), s.indexed.ids, holds_as (size t.table) s.indexed.ids c.deref.ensures.value refl refl s.indexed.kept))
 
-pub returns : goal.returns
-returns c =
+pub invariant_of-self : goal.invariant_of-self
+invariant_of-self c =
     let t = c.args.self.now in
     let links = map (λ row. row.chain) (rows_of t.slab) in
     let hashes = map (λ row. row.tag.hash) (rows_of t.slab) in
     let value = c.deref.ensures.value in
     record {
-      standing = ∥∥₁_map c.requires.standing (λ s.
+      standing = ∥∥₁_map c.args.self.now.standing (λ s.
           let ids = s.indexed.ids in
           record {
             sound = s.sound;
@@ -28,7 +28,12 @@ returns c =
               exact = s.indexed.exact;
             };
           });
+    }
+
+pub returns : goal.returns
+returns c =
+    record {
       slab = refl;
       slots = refl;
-      grown = c.grow_after.ensures.grown ∙ ap (λ n. grow_after c.args.entries n (size t.table)) c.deref.ensures.len;
+      grown = c.grow_after.ensures.grown ∙ ap (λ n. grow_after c.args.entries n (size c.args.self.now.table)) c.deref.ensures.len;
     }

@@ -8,8 +8,8 @@ use Rattle.slabs.specs.Slabs.{rows_of}
 use Rattle.records.proofs.Opened.{none_granted, none_exact, rows_few, opened_shows}
 use Rattle.records.proofs.records.Records.open.Goals as goal
 
-pub returns : goal.returns
-returns c =
+pub invariant_of-result : goal.invariant_of-result
+invariant_of-result c =
     let s = c.open-slab.result in
     let plan = c.args.plan.now in
     let made = c.open-slab.ensures in
@@ -27,6 +27,14 @@ returns c =
           exact = none_exact s made.empty;
         };
       });
+    }
+
+pub returns : goal.returns
+returns c =
+    let s = c.open-slab.result in
+    let plan = c.args.plan.now in
+    let made = c.open-slab.ensures in
+    record {
       opened = made.opened;
       table = c.open-table.ensures.starts;
       slots = refl;

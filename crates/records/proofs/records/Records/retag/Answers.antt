@@ -4,20 +4,22 @@ use Rattle.chained.specs.Chains.{Holds, size}
 use Rattle.slabs.specs.Lists.{held_of}
 use Rattle.slabs.specs.Layouts.{class_at}
 use Rattle.slabs.specs.Slabs.{rows_of, homes_of, layout}
-use Rattle.records.specs.Standing.{Standing, Indexed}
+use Rattle.records.specs.Order.{Indexes}
+use Rattle.records.specs.Standing.{Standing}
 use Rattle.records.proofs.Telling.{hashes_stay}
+use Rattle.records.proofs.Indexing.{sound_of}
 use Rattle.records.proofs.records.Records.retag.Goals as goal
 
 pub set_tag-requires : goal.set_tag-requires
-set_tag-requires c = record { sound = ∥∥₁_map c.requires.standing (λ s. s.sound); held = c.requires.held }
+set_tag-requires c = record { sound = sound_of c.args.self.now; held = c.requires.held }
 
-pub returns : goal.returns
-returns c =
+pub invariant_of-self : goal.invariant_of-self
+invariant_of-self c =
     let t = c.args.self.now in
     let new = c.set_tag.new.self in
     let told = c.set_tag.ensures.retagged in
     let hashes = hashes_stay (rows_of t.slab) (rows_of new) c.args.i c.args.tag told.tags_are c.requires.hash in
-    let indexed : Standing t → Indexed _ = λ s.
+    let indexed : Standing t → Indexes new t.table (vec_items t.heads) = λ s.
     let ids = s.indexed.ids in
     record {
       ids = ids;
@@ -29,7 +31,13 @@ returns c =
           ∙ ap (λ l. cond (eqb (get_or (homes_of new) k 0) (held_of (class_at l k))) 1 0) (sym told.layout_stays);
     } in
     record {
-      standing = ∥∥₁_elim c.set_tag.ensures.sound ∥∥₁_prop (λ sound. ∥∥₁_map c.requires.standing (λ s. record { sound = sound; indexed = indexed s }));
+      standing = ∥∥₁_elim c.set_tag.ensures.sound ∥∥₁_prop (λ sound. ∥∥₁_map c.args.self.now.standing (λ s. record { sound = sound; indexed = indexed s }));
+    }
+
+pub returns : goal.returns
+returns c =
+    let told = c.set_tag.ensures.retagged in
+    record {
       retagged = told;
       table = refl;
       kept = record { layout = told.layout_stays; table = refl; slots = refl; granted = λ k class h. ap (λ x. get_or x k 0) (sym told.homes_stay) ∙ h };

@@ -1,5 +1,5 @@
-use mathlib.Core.Logic.{∥∥₁_map}
+use Rattle.records.proofs.Indexing.{sound_of}
 use Rattle.records.proofs.records.Records.used.Goals as goal
 
 pub tally-requires : goal.tally-requires
-tally-requires c = ∥∥₁_map c.requires.standing (λ s. s.sound)
+tally-requires c = sound_of c.args.self.now

@@ -1,6 +1,6 @@
 use Rattle.std.proofs.Common.{sym, ◌∙◌}
 use Rattle.std.proofs.lemmas.Slice.Eq.{slice_eq-Decides}
-use Rattle.records.proofs.keys.PagesKeyedRowWanted.has_key.Goals as goal
+use Rattle.records.proofs.keys.PagesKeyedRowKey.has_key.Goals as goal
 use Rattle.std.proofs.lemmas.Bool.Decides.{Decides-eqb}
 
 pub returns : goal.returns
