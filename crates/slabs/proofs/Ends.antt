@@ -11,12 +11,9 @@ use Rattle.recency.specs.Lists.{foremost, rearmost, last}
 use Rattle.recency.proofs.Links.{last_in, present_head}
 use Rattle.slabs.specs.declared.class.Stand.{Stand}
 use Rattle.slabs.specs.declared.slab.Slab.{Slab}
-use Rattle.slabs.specs.declared.row.Row.{Row}
-use Rattle.slabs.specs.Rows.{RowsRead}
-use Rattle.slabs.specs.Classes.{list_at}
 use Rattle.slabs.specs.Lists.{list_of}
 use Rattle.slabs.specs.Layouts.{Chunk, class_at, size_at, start}
-use Rattle.slabs.specs.Slabs.{rows_of, homes_of, spans_of, layout, Lists, Sound, Holds}
+use Rattle.slabs.specs.Slabs.{rows_of, homes_of, spans_of, layout, Lists, Holds}
 use Rattle.slabs.proofs.Families.{list_some, list_num, absent}
 use Rattle.slabs.proofs.Placing.{home_chunk, home_within, home_class}
 use Rattle.slabs.proofs.Bytes.{chunks_apart}
@@ -33,18 +30,18 @@ pub none_in : (xs : List ℕ) → ((k : ℕ) → count k xs ≤ 0) → xs ≡ []
 none_in [] h = refl
 none_in (x ∷ xs) h = absurd (omega (arith, h x, present_head x xs))
 
-module _ (s : Slab) (t : ∥ Sound s ∥₁) where
+module _ (s : Slab) where
   -- a row that stands in a list names it
   pub names : (r h : ℕ) → 0 < h → ((ls : ℕ → List ℕ) → Lists s ls → 0 < count r (ls h)) → get_or (homes_of s) r 0 ≡ h
   names r h ph stands =
-      let up : get_or (homes_of s) r 0 ≤ h = ∥∥₁_elim t le_prop (λ z. let a = z.listed.named h r ph in let b = stands z.lists z.listed in grind (arith, nat_tests)) in
-      let down : h ≤ get_or (homes_of s) r 0 = ∥∥₁_elim t le_prop (λ z. let a = z.listed.named h r ph in let b = stands z.lists z.listed in grind (arith, nat_tests)) in
+      let up : get_or (homes_of s) r 0 ≤ h = ∥∥₁_elim s.ok le_prop (λ z. let a = z.listed.named h r ph in let b = stands z.lists z.listed in grind (arith, nat_tests)) in
+      let down : h ≤ get_or (homes_of s) r 0 = ∥∥₁_elim s.ok le_prop (λ z. let a = z.listed.named h r ph in let b = stands z.lists z.listed in grind (arith, nat_tests)) in
       omega arith
 
   -- there are no lists past the last class
   pub homes_few : (i : ℕ) → get_or (homes_of s) i 0 ≤ 99
   homes_few i =
-      ∥∥₁_elim t le_prop (λ z.
+      ∥∥₁_elim s.ok le_prop (λ z.
       ⊎_elim
       (λ (some : 0 < get_or (homes_of s) i 0).
       let of = z.placed.listed i (home_chunk (layout s) (homes_of s) z.placed i some) in
@@ -56,30 +53,36 @@ module _ (s : Slab) (t : ∥ Sound s ∥₁) where
 
   pub beyond : (ls : ℕ → List ℕ) → Lists s ls → (stand : Stand) (class : ℕ) → 33 ≤ class → ls (list_of stand class) ≡ []
   beyond ls f stand class far =
-      none_in (ls (list_of stand class)) (λ k. omega (arith, absent s.classes (rows_of s) ls f k (list_of stand class) (list_some stand class) (λ e. omega (arith, list_num stand class, homes_few k))))
+      none_in (ls (list_of stand class)) (λ k. omega (arith, absent s.classes.all (rows_of s) ls f k (list_of stand class) (list_some stand class) (λ e. omega (arith, list_num stand class, homes_few k))))
 
-  pub class_within : (class : ℕ) → class < 33 → class < length s.classes
-  class_within class few = ∥∥₁_elim t le_prop (λ z. let c = z.placed.classes.0 in omega (arith, length-map s.classes (λ x. x.size)))
+  pub classes_long : length s.classes.all ≡ 33
+  classes_long =
+      let up : length s.classes.all ≤ 33 = ∥∥₁_elim s.ok le_prop (λ z. let c = z.placed.classes.0 in omega (arith, length-map s.classes.all (λ x. x.size))) in
+      let down : 33 ≤ length s.classes.all = ∥∥₁_elim s.ok le_prop (λ z. let c = z.placed.classes.0 in omega (arith, length-map s.classes.all (λ x. x.size))) in
+      omega arith
+
+  pub class_within : (class : ℕ) → class < 33 → class < length s.classes.all
+  class_within class few = omega (arith, classes_long)
 
   -- a page past the most has no owner
   pub no_owner_past : (p : ℕ) → 256 ≤ p → get_or s.owners p 0 ≡ 0
   no_owner_past p past =
-      let low : get_or s.owners p 0 ≤ 0 = ∥∥₁_elim t le_prop (λ z. let e = get_or_past s.owners p 0 (omega (arith, z.placed.classes.3)) in omega arith) in
+      let low : get_or s.owners p 0 ≤ 0 = ∥∥₁_elim s.ok le_prop (λ z. let e = get_or_past s.owners p 0 (omega (arith, z.placed.classes.3)) in omega arith) in
       omega arith
 
   pub owners_few : (p : ℕ) → get_or s.owners p 0 < 33
-  owners_few p = ∥∥₁_elim t le_prop (λ z. z.placed.owned p)
+  owners_few p = ∥∥₁_elim s.ok le_prop (λ z. z.placed.owned p)
 
   pub page_of_row : (i : ℕ) → i < length (rows_of s) → i / 85 < 256
-  page_of_row i w = ∥∥₁_elim t le_prop (λ z. let r = z.placed.rows in let f = z.placed.few in let m = length-map (rows_of s) (λ row. row.home) in omega arith)
+  page_of_row i w = ∥∥₁_elim s.ok le_prop (λ z. let r = z.placed.rows in let f = z.placed.few in let m = length-map (rows_of s) (λ row. row.home) in omega arith)
 
   pub no_size_past : (class : ℕ) → 33 ≤ class → get_or (layout s).sizes class 0 ≡ 0
-  no_size_past class far = get_or_past (layout s).sizes class 0 (∥∥₁_elim t le_prop (λ z. let c = z.placed.classes.0 in omega arith))
+  no_size_past class far = get_or_past (layout s).sizes class 0 (∥∥₁_elim s.ok le_prop (λ z. let c = z.placed.classes.0 in omega arith))
 
   -- the page and the chunk of a row that is in a list
   module _ (i : ℕ) (some : 0 < get_or (homes_of s) i 0) where
     pub listed_within : i < length (rows_of s)
-    listed_within = ∥∥₁_elim t le_prop (λ z. let w = home_within (layout s) (homes_of s) z.placed i some in omega (arith, length-map (rows_of s) (λ row. row.home)))
+    listed_within = ∥∥₁_elim s.ok le_prop (λ z. let w = home_within (layout s) (homes_of s) z.placed i some in omega (arith, length-map (rows_of s) (λ row. row.home)))
 
     pub page_few : i / 85 < 256
     page_few = page_of_row i listed_within
@@ -88,40 +91,39 @@ module _ (s : Slab) (t : ∥ Sound s ∥₁) where
     owner_few = owners_few (i / 85)
 
     pub chunk_inside : i % 85 * size_at (layout s) i + size_at (layout s) i ≤ 4096
-    chunk_inside = ∥∥₁_elim t le_prop (λ z. z.placed.inside (class_at (layout s) i) (i % 85) (home_chunk (layout s) (homes_of s) z.placed i some))
+    chunk_inside = ∥∥₁_elim s.ok le_prop (λ z. z.placed.inside (class_at (layout s) i) (i % 85) (home_chunk (layout s) (homes_of s) z.placed i some))
 
     pub page_within : (i / 85) + 1 ≤ s.pages
-    page_within = ∥∥₁_elim t le_prop (λ z. let r = z.placed.rows in let m = length-map (rows_of s) (λ row. row.home) in let w = listed_within in omega arith)
+    page_within = ∥∥₁_elim s.ok le_prop (λ z. let r = z.placed.rows in let m = length-map (rows_of s) (λ row. row.home) in let w = listed_within in omega arith)
 
   -- the class of a row in a class's list, and the room of its chunk
   module _ (i class : ℕ) (stand : Stand) (home : get_or (homes_of s) i 0 ≡ list_of stand class) where
     pub class_is : class_at (layout s) i ≡ class
     class_is =
-        let up : class_at (layout s) i ≤ class = ∥∥₁_elim t le_prop (λ z. let e = home_class (layout s) (homes_of s) z.placed i class stand home in omega arith) in
-        let down : class ≤ class_at (layout s) i = ∥∥₁_elim t le_prop (λ z. let e = home_class (layout s) (homes_of s) z.placed i class stand home in omega arith) in
+        let up : class_at (layout s) i ≤ class = ∥∥₁_elim s.ok le_prop (λ z. let e = home_class (layout s) (homes_of s) z.placed i class stand home in omega arith) in
+        let down : class ≤ class_at (layout s) i = ∥∥₁_elim s.ok le_prop (λ z. let e = home_class (layout s) (homes_of s) z.placed i class stand home in omega arith) in
         omega arith
 
     pub size_of_class : size_at (layout s) i ≡ get_or (layout s).sizes class 0
     size_of_class = ap (λ k. get_or (layout s).sizes k 0) class_is
 
     pub chunk_there : Chunk (layout s) i
-    chunk_there = ∥∥₁_elim t le_prop (λ z. home_chunk (layout s) (homes_of s) z.placed i (omega (arith, list_some stand class)))
+    chunk_there = ∥∥₁_elim s.ok le_prop (λ z. home_chunk (layout s) (homes_of s) z.placed i (omega (arith, list_some stand class)))
 
   -- a record fits its chunk
   pub record_fits : (j : ℕ) → Holds s j → get_or (spans_of (rows_of s)) j 0 ≤ size_at (layout s) j
-  record_fits j held = ∥∥₁_elim t le_prop (λ z. z.fitting j (class_at (layout s) j) held)
+  record_fits j held = ∥∥₁_elim s.ok le_prop (λ z. z.fitting j (class_at (layout s) j) held)
 
   -- chunks of different rows lie apart
   pub lie_apart : (i j : ℕ) → Chunk (layout s) i → Chunk (layout s) j → (i ≡ j → ⊥) → (start (layout s) i + size_at (layout s) i ≤ start (layout s) j) ⊎ (start (layout s) j + size_at (layout s) j ≤ start (layout s) i)
   lie_apart i j ci cj ne =
       ⊎_elim
       (λ (lt : start (layout s) j < start (layout s) i + size_at (layout s) i).
-      inr (∥∥₁_elim t le_prop (λ z. ⊎_elim (λ first. absurd (omega arith)) (λ second. second) (chunks_apart (layout s) (homes_of s) z.placed i j ci cj ne))))
+      inr (∥∥₁_elim s.ok le_prop (λ z. ⊎_elim (λ first. absurd (omega arith)) (λ second. second) (chunks_apart (layout s) (homes_of s) z.placed i j ci cj ne))))
       inl
       (cases_lt (start (layout s) j) (start (layout s) i + size_at (layout s) i))
 
--- the row that a class gives as the first of a list
-pub first_names : (s : Slab) → ∥ Sound s ∥₁ → (class row : ℕ) (stand : Stand) → class < 33 → ((rows : List Row) (ids : List ℕ) → RowsRead (list_at s.classes class stand) rows ids → Some row ≡ foremost ids) → get_or (homes_of s) row 0 ≡ list_of stand class
-first_names s t class row stand few is =
-    names s t row (list_of stand class) (list_some stand class)
-    (λ ls f. foremost_in (ls (list_of stand class)) row (is (rows_of s) (ls (list_of stand class)) (f.reads class stand few)))
+-- the row at the front of a list names it
+pub first_names : (s : Slab) (class row : ℕ) (stand : Stand) → ((ls : ℕ → List ℕ) → Lists s ls → Some row ≡ foremost (ls (list_of stand class))) → get_or (homes_of s) row 0 ≡ list_of stand class
+first_names s class row stand is =
+    names s row (list_of stand class) (list_some stand class) (λ ls f. foremost_in (ls (list_of stand class)) row (is ls f))

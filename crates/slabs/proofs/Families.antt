@@ -1,5 +1,5 @@
 -- What the lists of all classes are after one row entered a list, left one, or went to the front of its own.
-use Rattle.std.proofs.Common.{◌≡◌, ℕ, ◌+◌, ◌-◌, ◌*◌, ◌<◌, Bool, true, false, cond, eqb, List, [], ◌∷◌, map, length, get_or, set, sym, refl, ap, ◌∙◌, subst, ⊎_elim, arith}
+use Rattle.std.proofs.Common.{◌≡◌, ℕ, ◌+◌, ◌-◌, ◌*◌, ◌<◌, ◌≤◌, Bool, true, false, cond, eqb, List, [], ◌∷◌, map, length, get_or, set, sym, refl, ap, ◌∙◌, subst, ⊎_elim, arith}
 use lib.ListN.{length-map}
 use Rattle.std.proofs.lemmas.List.{get_or-set_same, get_or-set_other}
 use Rattle.std.proofs.lemmas.Bool.{cases_eq, eqb-true, eqb-false, cond_both}
@@ -68,6 +68,10 @@ length_without i (x ∷ xs) = go (eqb i x) (length_without i xs)
     go : (b : Bool) → length (without i xs) + count i xs ≡ length xs → length (cond b (without i xs) (x ∷ without i xs)) + (cond b 1 0 + count i xs) ≡ length (x ∷ xs)
     go true h = omega arith
     go false h = omega arith
+
+pub out_shorter : (b : Bool) (i : ℕ) (xs : List ℕ) → length (cond b (without i xs) xs) ≤ length xs
+out_shorter true i xs = omega (arith, length_without i xs)
+out_shorter false i xs = omega arith
 
 -- what the lists are for a row that names another list, or none
 module _ (classes : List Class) (rows : List Row) (ls : ℕ → List ℕ) (f : Family classes rows ls) where

@@ -12,3 +12,4 @@ pub mod Opening
 pub mod Shifts
 pub mod Walks
 pub mod Answering
+pub mod Lending

@@ -1,10 +1,12 @@
--- A slab that was just opened is sound, and has no rows in its lists.
-use Rattle.std.proofs.Common.{◌≡◌, ℕ, zero, suc, ◌+◌, ◌-◌, ◌*◌, ◌/◌, ◌<◌, ◌≤◌, Bool, true, false, cond, ◌&&◌, leb, List, [], ◌∷◌, map, length, get_or, take, replicate, Some, None, unwrap_or, sym, refl, ap, ◌∙◌, ⊎_elim, div-lt_iff_lt-mul, zero-mul, arith, length-take}
+-- What was just opened is in order, and has no rows in its lists.
+use Rattle.std.proofs.Common.{◌≡◌, ℕ, zero, suc, ◌+◌, ◌-◌, ◌*◌, ◌/◌, ◌<◌, ◌≤◌, Bool, true, false, cond, ◌&&◌, leb, List, [], ◌∷◌, map, length, get_or, replicate, Some, None, unwrap_or, Vec, vec_items, sym, refl, ap, ◌∙◌, ⊎_elim, div-lt_iff_lt-mul, zero-mul, arith, length-take}
+use Rattle.std.specs.declared.alloc.Global.{Global}
+use Rattle.std.specs.Vec.{with_items}
 use lib.ListN.{length-map, length-replicate}
+use Rattle.std.proofs.lemmas.List.{with_items_is}
 use Rattle.std.proofs.lemmas.List.{get_or_past, get_or-map}
 use Rattle.std.proofs.lemmas.Bool.{cases_lt, and_parts, and_right, leb-true, lt-leb, cond-false}
 use Rattle.std.proofs.lemmas.Bool.Decides.{nat_tests}
-use Rattle.recency.specs.Numbers.{count}
 use Rattle.plan.specs.declared.plan.Plan.{Plan}
 use Rattle.plan.specs.Plans.{plan_sizes}
 use Rattle.plan.specs.Sizes.{sizes_of}
@@ -14,10 +16,12 @@ use Rattle.plan.proofs.Ask.{tiles}
 use Rattle.slabs.specs.declared.class.Class.{Class}
 use Rattle.slabs.specs.declared.class.Stand.{Stand}
 use Rattle.slabs.specs.declared.class.Stand.TheVariants.{Free, Granted, Held}
-use Rattle.slabs.specs.declared.slab.Slab.{Slab}
+use Rattle.slabs.specs.declared.row.Row.{Row}
 use Rattle.slabs.specs.Rows.{blank, homes}
 use Rattle.slabs.specs.Classes.{place, no_class, planned, Fresh}
-use Rattle.slabs.specs.Slabs.{rows_of, homes_of, layout, Lists, Sound}
+use Rattle.slabs.specs.Lists.{Family}
+use Rattle.slabs.specs.Layouts.{Layout}
+use Rattle.slabs.specs.Orders.{cut, InOrder}
 
 value_of : (b : Bool) (x : ℕ) → unwrap_or (cond b (Some x) None) 0 ≡ cond b x 0
 value_of true x = refl
@@ -80,30 +84,39 @@ zeros zero i = refl
 zeros (suc n) zero = refl
 zeros (suc n) (suc i) = zeros n i
 
-module _ (s : Slab) (plan : Plan) (rows : rows_of s ≡ replicate (85 * s.pages) blank) (few : s.pages ≤ 256) (given : s.given ≡ 0) (owners : s.owners ≡ replicate 256 0) (long : length s.classes ≡ 33) (fresh : (class : ℕ) → class < 33 → Fresh (plan_sizes plan) class (get_or s.classes class no_class)) where
-  homes_none : (i : ℕ) → get_or (homes_of s) i 0 ≡ 0
-  homes_none i = ap (λ rs. get_or (homes rs) i 0) rows ∙ homes_blank (85 * s.pages) i
+-- the rows that were handed over, cut to whole pages and blanked
+pub rows_opened : (v : Vec Row Global) (lent ws : List Row) (pages : ℕ) → v.len ≡ 85 * pages → length lent ≡ v.len → ws ≡ replicate (length lent) blank → vec_items (with_items v ws) ≡ replicate (85 * pages) blank
+rows_opened v lent ws pages cut same blanks =
+    let all : ws ≡ replicate (85 * pages) blank = blanks ∙ ap (λ k. replicate k blank) (same ∙ cut) in
+    with_items_is v ws (ap length all ∙ length-replicate (85 * pages) blank ∙ sym cut) ∙ all
 
-  rows_long : length (rows_of s) ≡ 85 * s.pages
-  rows_long = ap length rows ∙ length-replicate (85 * s.pages) blank
+module _ (classes : List Class) (all : List Row) (owners : List ℕ) (pages : ℕ) (plan : Plan) (rows : all ≡ replicate (85 * pages) blank) (few : pages ≤ 256) (bare : owners ≡ replicate 256 0) (long : length classes ≡ 33) (fresh : (class : ℕ) → class < 33 → Fresh (plan_sizes plan) class (get_or classes class no_class)) where
+  abbrev the : Layout
+  the = cut classes owners 0 pages
 
-  pub opened_lists : Lists s (λ _. [])
+  homes_none : (i : ℕ) → get_or (homes all) i 0 ≡ 0
+  homes_none i = ap (λ rs. get_or (homes rs) i 0) rows ∙ homes_blank (85 * pages) i
+
+  rows_long : length (all) ≡ 85 * pages
+  rows_long = ap length rows ∙ length-replicate (85 * pages) blank
+
+  pub opened_lists : Family classes all (λ _. [])
   opened_lists =
       record {
         named = λ h i ph. let z = homes_none i in grind (arith, nat_tests);
-        reads = λ class stand lt. (fresh class lt).no_rows stand (rows_of s) (omega (arith, rows_long));
+        reads = λ class stand lt. (fresh class lt).no_rows stand (all) (omega (arith, rows_long));
         counted = λ class stand lt. (fresh class lt).no_counts stand;
       }
 
-  owner_none : (p : ℕ) → get_or s.owners p 0 ≡ 0
-  owner_none p = ap (λ os. get_or os p 0) owners ∙ zeros 256 p
+  owner_none : (p : ℕ) → get_or owners p 0 ≡ 0
+  owner_none p = ap (λ os. get_or os p 0) bare ∙ zeros 256 p
 
   -- a column of the classes
-  column : (f : Class → ℕ) (g : ℕ → ℕ) → f no_class ≡ 0 → ((class : ℕ) → 33 ≤ class → g class ≡ 0) → ((class : ℕ) → class < 33 → f (get_or s.classes class no_class) ≡ g class) → (class : ℕ) → get_or (map f s.classes) class 0 ≡ g class
+  column : (f : Class → ℕ) (g : ℕ → ℕ) → f no_class ≡ 0 → ((class : ℕ) → 33 ≤ class → g class ≡ 0) → ((class : ℕ) → class < 33 → f (get_or classes class no_class) ≡ g class) → (class : ℕ) → get_or (map f classes) class 0 ≡ g class
   column f g z far is class =
       ⊎_elim
-      (λ (lt : class < 33). get_or-map f s.classes class no_class 0 (omega arith) ∙ is class lt)
-      (λ past. get_or_past (map f s.classes) class 0 (omega (arith, length-map s.classes f)) ∙ sym (far class past))
+      (λ (lt : class < 33). get_or-map f classes class no_class 0 (omega arith) ∙ is class lt)
+      (λ past. get_or_past (map f classes) class 0 (omega (arith, length-map classes f)) ∙ sym (far class past))
       (cases_lt class 33)
 
   past_plan : (ask : ℕ → ℕ) (class : ℕ) → 33 ≤ class → planned ask (plan_sizes plan) class ≡ 0
@@ -111,29 +124,29 @@ module _ (s : Slab) (plan : Plan) (rows : rows_of s ≡ replicate (85 * s.pages)
       let l : length (plan_sizes plan) ≤ 32 = plan_short plan in
       beyond_sizes ask (plan_sizes plan) class (omega arith)
 
-  pub opened_sizes : (class : ℕ) → get_or (layout s).sizes class 0 ≡ planned (λ x. x) (plan_sizes plan) class
+  pub opened_sizes : (class : ℕ) → get_or the.sizes class 0 ≡ planned (λ x. x) (plan_sizes plan) class
   opened_sizes = column (λ c. c.size) (planned (λ x. x) (plan_sizes plan)) refl (past_plan (λ x. x)) (λ class lt. (fresh class lt).size_is)
 
-  pub opened_chunks : (class : ℕ) → get_or (layout s).chunks class 0 ≡ planned chunks_of (plan_sizes plan) class
+  pub opened_chunks : (class : ℕ) → get_or the.chunks class 0 ≡ planned chunks_of (plan_sizes plan) class
   opened_chunks = column (λ c. c.chunks) (planned chunks_of (plan_sizes plan)) refl (past_plan chunks_of) (λ class lt. (fresh class lt).chunks_are)
 
-  no_shares : (class : ℕ) → get_or (layout s).shares class 0 ≡ 0
+  no_shares : (class : ℕ) → get_or the.shares class 0 ≡ 0
   no_shares = column (λ c. c.pages) (λ _. 0) refl (λ _ _. refl) (λ class lt. (fresh class lt).no_pages)
 
-  no_chunks : get_or (layout s).chunks 0 0 ≡ 0
+  no_chunks : get_or the.chunks 0 0 ≡ 0
   no_chunks = opened_chunks 0
 
-  pub opened_sound : Sound s
-  opened_sound =
+  pub opened_order : InOrder classes all the
+  opened_order =
       record {
         lists = λ _. [];
         listed = opened_lists;
         placed =
             record {
               few = few;
-              rows = length-map (rows_of s) (λ row. row.home) ∙ rows_long;
+              rows = length-map (all) (λ row. row.home) ∙ rows_long;
               in_order = omega arith;
-              classes = (length-map s.classes (λ c. c.size) ∙ long, length-map s.classes (λ c. c.chunks) ∙ long, length-map s.classes (λ c. c.pages) ∙ long, ap length owners);
+              classes = (length-map classes (λ c. c.size) ∙ long, length-map classes (λ c. c.chunks) ∙ long, length-map classes (λ c. c.pages) ∙ long, ap length bare);
               owned = λ p. omega (arith, owner_none p);
               unowned = λ p _. owner_none p;
               none = no_chunks;
@@ -144,10 +157,10 @@ module _ (s : Slab) (plan : Plan) (rows : rows_of s ≡ replicate (85 * s.pages)
                   let h = planned_inside plan class k (omega arith) in
                   let m = ap (λ x. k * x) f in
                   omega arith;
-              shared = λ class _. no_shares class ∙ ap (λ g. count class (take g s.owners)) (sym given);
-              listed = λ i chunk. absurd (let z = ap (λ k. get_or (layout s).chunks k 0) (owner_none (i / 85)) in omega (arith, no_chunks));
+              shared = λ class _. no_shares class;
+              listed = λ i chunk. absurd (let z = ap (λ k. get_or the.chunks k 0) (owner_none (i / 85)) in omega (arith, no_chunks));
               unlisted = λ i _. homes_none i;
             };
         fitting = λ i class held. absurd (omega (arith, homes_none i));
-        full = λ class lt. sym (ap (λ x. x * get_or (layout s).chunks class 0) (no_shares class) ∙ zero-mul (get_or (layout s).chunks class 0));
+        full = λ class lt. sym (ap (λ x. x * get_or the.chunks class 0) (no_shares class) ∙ zero-mul (get_or the.chunks class 0));
       }

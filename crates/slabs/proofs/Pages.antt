@@ -8,15 +8,18 @@ use Rattle.std.proofs.lemmas.Bool.{cases_eq, cases_lt}
 use Rattle.std.proofs.lemmas.Bool.Decides.{nat_tests}
 use Rattle.recency.specs.Numbers.{count}
 use Rattle.recency.proofs.Counts.{count_append}
-use Rattle.recency.proofs.Columns.{column_kept, column_set}
+use Rattle.recency.proofs.Columns.{column_kept, column_set, column_of_rest}
+use Rattle.slabs.specs.declared.row.Row.{Row}
 use Rattle.slabs.specs.declared.class.Class.{Class}
 use Rattle.slabs.specs.declared.class.Stand.TheVariants.{Free, Granted, Held}
 use Rattle.slabs.specs.declared.slab.Slab.{Slab}
-use Rattle.slabs.specs.Rows.{rests}
-use Rattle.slabs.specs.Classes.{no_class, with_share, count_at}
-use Rattle.slabs.specs.Lists.{free_of, stocked, filled}
+use Rattle.slabs.specs.Rows.{homes, rests}
+use Rattle.slabs.specs.Classes.{frame, no_class, with_share, count_at}
+use Rattle.slabs.specs.Lists.{Family, free_of, stocked, filled}
 use Rattle.slabs.specs.Layouts.{Layout, Placed, Chunk, class_at, size_at, start, with_page, Fitting, Full}
-use Rattle.slabs.specs.Slabs.{rows_of, homes_of, spans_of, cut, layout, Sound, PageGiven}
+use Rattle.slabs.specs.Slabs.{rows_of, homes_of, spans_of, cut, layout, InOrder}
+use Rattle.slabs.proofs.Cuts.{cut_same}
+use Rattle.slabs.proofs.Families.{family_share}
 use Rattle.slabs.proofs.Placing.{shares_few}
 use Rattle.slabs.proofs.Sounds.{spans_of_rests, lists_few}
 use Rattle.slabs.proofs.Stocking.{filled_long, filled_below, filled_above, filled_there, stocked_long}
@@ -175,64 +178,57 @@ full_page l first class ls lt g full =
     grind (arith, nat_tests))
     (cases_eq g class)
 
-pub sound_page : (s t : Slab) (class : ℕ) → class < 33 → 0 < get_or (layout s).chunks class 0 → s.given < s.pages → PageGiven s t class → rests (rows_of t) ≡ rests (rows_of s) → Sound s → Sound t
-sound_page s t class few some free e same z =
-    let l = layout s in
+-- all is in order after the page was given
+pub order_page : (classes classes' : List Class) (rows rows' : List Row) (l : Layout) (class : ℕ) → class < 33 → 0 < get_or l.chunks class 0 → l.given < l.pages → ((ls : ℕ → List ℕ) → Family classes rows ls → Family classes' rows' (stocked (85 * l.given) (get_or l.chunks class 0) (free_of class) ls)) → homes rows' ≡ filled (85 * l.given) (get_or l.chunks class 0) (free_of class) (homes rows) → rests rows' ≡ rests rows → InOrder classes rows l → InOrder classes' rows' (with_page l class)
+order_page classes classes' rows rows' l class few some free lists moved same z =
     let p = z.placed in
-    let spans = spans_of_rests (rows_of s) (rows_of t) same in
-    let ls = stocked (85 * s.given) (get_or l.chunks class 0) (free_of class) z.lists in
     record {
-      lists = ls;
-      listed = e.lists z.lists z.listed;
-      placed =
-          subst (λ x. Placed x (homes_of t)) (sym e.layout)
-          (subst (λ x. Placed (with_page l class) x) (sym e.homes) (placed_page l (homes_of s) p class few some free));
+      lists = stocked (85 * l.given) (get_or l.chunks class 0) (free_of class) z.lists;
+      listed = lists z.lists z.listed;
+      placed = subst (λ x. Placed (with_page l class) x) (sym moved) (placed_page l (homes rows) p class few some free);
       fitting =
-          subst (λ x. Fitting x (homes_of t) (spans_of (rows_of t))) (sym e.layout)
-          (subst (λ x. Fitting (with_page l class) x (spans_of (rows_of t))) (sym e.homes)
-          (subst (λ x. Fitting (with_page l class) (filled (85 * s.given) (get_or l.chunks class 0) (free_of class) (homes_of s)) x) (sym spans)
-          (fitting_page l (homes_of s) p class few some free (spans_of (rows_of s)) z.fitting)));
-      full = λ g lt.
-          subst (λ x. Full x ls g) (sym e.layout)
-          (full_page l (85 * s.given) class z.lists (let c = p.classes.2 in omega arith) g (z.full g lt));
+          subst (λ x. Fitting (with_page l class) x (spans_of rows')) (sym moved)
+          (subst (λ x. Fitting (with_page l class) (filled (85 * l.given) (get_or l.chunks class 0) (free_of class) (homes rows)) x) (sym (spans_of_rests rows rows' same))
+          (fitting_page l (homes rows) p class few some free (spans_of rows) z.fitting));
+      full = λ g lt. full_page l (85 * l.given) class z.lists (let c = p.classes.2 in omega arith) g (z.full g lt);
     }
 
--- what a sound slab tells of its next page
-module _ (s : Slab) (t : ∥ Sound s ∥₁) where
+-- what a slab tells of its next page
+module _ (s : Slab) where
   pub classes_few : (class : ℕ) → 33 ≤ class → get_or (layout s).chunks class 0 ≡ 0
-  classes_few class far = get_or_past (layout s).chunks class 0 (∥∥₁_elim t le_prop (λ z. let c = z.placed.classes.1 in omega arith))
+  classes_few class far = get_or_past (layout s).chunks class 0 (∥∥₁_elim s.ok le_prop (λ z. let c = z.placed.classes.1 in omega arith))
 
   pub no_share_past : (class : ℕ) → 33 ≤ class → get_or (layout s).shares class 0 ≡ 0
-  no_share_past class far = get_or_past (layout s).shares class 0 (∥∥₁_elim t le_prop (λ z. let c = z.placed.classes.2 in omega arith))
+  no_share_past class far = get_or_past (layout s).shares class 0 (∥∥₁_elim s.ok le_prop (λ z. let c = z.placed.classes.2 in omega arith))
 
   pub given_few : s.given ≤ s.pages
-  given_few = ∥∥₁_elim t le_prop (λ z. z.placed.in_order)
+  given_few = ∥∥₁_elim s.ok le_prop (λ z. z.placed.in_order)
 
   -- the counts of a class are those of its chunks
-  pub counts_whole : (class : ℕ) → class < 33 → count_at s.classes class Free + count_at s.classes class Granted + count_at s.classes class Held ≡ get_or (layout s).shares class 0 * get_or (layout s).chunks class 0
+  pub counts_whole : (class : ℕ) → class < 33 → count_at s.classes.all class Free + count_at s.classes.all class Granted + count_at s.classes.all class Held ≡ get_or (layout s).shares class 0 * get_or (layout s).chunks class 0
   counts_whole class few =
-      let up : count_at s.classes class Free + count_at s.classes class Granted + count_at s.classes class Held ≤ get_or (layout s).shares class 0 * get_or (layout s).chunks class 0 =
-      ∥∥₁_elim t le_prop (λ z. let f = z.full class few in let a = z.listed.counted class Free few in let b = z.listed.counted class Granted few in let c = z.listed.counted class Held few in omega arith) in
-      let down : get_or (layout s).shares class 0 * get_or (layout s).chunks class 0 ≤ count_at s.classes class Free + count_at s.classes class Granted + count_at s.classes class Held =
-      ∥∥₁_elim t le_prop (λ z. let f = z.full class few in let a = z.listed.counted class Free few in let b = z.listed.counted class Granted few in let c = z.listed.counted class Held few in omega arith) in
+      let up : count_at s.classes.all class Free + count_at s.classes.all class Granted + count_at s.classes.all class Held ≤ get_or (layout s).shares class 0 * get_or (layout s).chunks class 0 =
+      ∥∥₁_elim s.ok le_prop (λ z. let f = z.full class few in let a = z.listed.counted class Free few in let b = z.listed.counted class Granted few in let c = z.listed.counted class Held few in omega arith) in
+      let down : get_or (layout s).shares class 0 * get_or (layout s).chunks class 0 ≤ count_at s.classes.all class Free + count_at s.classes.all class Granted + count_at s.classes.all class Held =
+      ∥∥₁_elim s.ok le_prop (λ z. let f = z.full class few in let a = z.listed.counted class Free few in let b = z.listed.counted class Granted few in let c = z.listed.counted class Held few in omega arith) in
       omega arith
 
   pub pages_few : s.pages ≤ 256
-  pages_few = ∥∥₁_elim t le_prop (λ z. z.placed.few)
+  pages_few = ∥∥₁_elim s.ok le_prop (λ z. z.placed.few)
 
   module _ (class : ℕ) (few : class < 33) (some : 0 < get_or (layout s).chunks class 0) (free : s.given < s.pages) where
     pub stock_within : 85 * s.given + get_or (layout s).chunks class 0 ≤ length (rows_of s)
-    stock_within = ∥∥₁_elim t le_prop (λ z. let r = z.placed.rows in let m = z.placed.most class in let n = length-map (rows_of s) (λ row. row.home) in omega arith)
+    stock_within = ∥∥₁_elim s.ok le_prop (λ z. let r = z.placed.rows in let m = z.placed.most class in let n = length-map (rows_of s) (λ row. row.home) in omega arith)
 
     pub stock_few : get_or (layout s).chunks class 0 ≤ 85
-    stock_few = ∥∥₁_elim t le_prop (λ z. z.placed.most class)
+    stock_few = ∥∥₁_elim s.ok le_prop (λ z. z.placed.most class)
 
-    pub stock_room : count_at s.classes class Free ≤ 21760
-    stock_room = ∥∥₁_elim t le_prop (λ z. let n = lists_few s z Free class few in let c = z.listed.counted class Free few in omega arith)
+    pub stock_room : count_at s.classes.all class Free ≤ 21760
+    stock_room = ∥∥₁_elim s.ok le_prop (λ z. let n = lists_few s z Free class few in let c = z.listed.counted class Free few in omega arith)
 
     pub share_few : get_or (layout s).shares class 0 ≤ 256
     share_few =
-        ∥∥₁_elim t le_prop (λ z.
+        ∥∥₁_elim s.ok le_prop (λ z.
         shares_few (layout s) (homes_of s) z.placed class
         (⊎_elim (λ (pos : 0 < class). pos) (λ zero_is. absurd (let e : class ≡ 0 = omega arith in omega (arith, ap (λ k. get_or (layout s).chunks k 0) e, z.placed.none))) (cases_lt 0 class)))
 
@@ -240,9 +236,25 @@ module _ (s : Slab) (t : ∥ Sound s ∥₁) where
     homeless k lt =
         let m = stock_few in
         let low : get_or (homes_of s) (85 * s.given + k) 0 ≤ 0 =
-        ∥∥₁_elim t le_prop (λ z.
+        ∥∥₁_elim s.ok le_prop (λ z.
         let i = 85 * s.given + k in
         let e : i / 85 ≡ s.given = omega arith in
         let u = z.placed.unlisted i (none_there (layout s) (homes_of s) z.placed class few some free i e) in
         omega arith) in
         omega arith
+
+    -- its rows became free chunks, and then the class gained the page
+    module _ (mid : List Class) (rows : List Row) (n : ℕ) (all : get_or (layout s).chunks class 0 ≡ n) (frames : map frame mid ≡ map frame s.classes.all) where
+      long : class < length mid
+      long = ∥∥₁_elim s.ok le_prop (λ z. let c = z.placed.classes.0 in omega (arith, length-map s.classes.all (λ x. x.size), length-map mid frame, length-map s.classes.all frame, ap length frames))
+
+      pub share_room : (get_or mid class no_class).pages + 1 < 4294967296
+      share_room =
+          let same = column_of_rest frame (λ x. x.pages) (λ _. refl) s.classes.all mid frames in
+          omega (arith, get_or-map (λ x. x.pages) mid class no_class 0 long, ap (λ xs. get_or xs class 0) same, share_few)
+
+      pub lists_given : ((ls : ℕ → List ℕ) → Family s.classes.all (rows_of s) ls → Family mid rows (stocked (85 * s.given) n (free_of class) ls)) → (ls : ℕ → List ℕ) → Family s.classes.all (rows_of s) ls → Family (set mid class (with_share (get_or mid class no_class) ((get_or mid class no_class).pages + 1))) rows (stocked (85 * s.given) (get_or (layout s).chunks class 0) (free_of class) ls)
+      lists_given step ls f = family_share mid class _ long rows _ (subst (λ k. Family mid rows (stocked (85 * s.given) k (free_of class) ls)) (sym all) (step ls f))
+
+      pub layout_given : cut (set mid class (with_share (get_or mid class no_class) ((get_or mid class no_class).pages + 1))) (set s.owners s.given class) (s.given + 1) s.pages ≡ with_page (layout s) class
+      layout_given = cut_page mid s.owners s.given s.pages class long ∙ ap (λ l. with_page l class) (cut_same s.classes.all mid s.owners s.given s.pages frames)

@@ -1,21 +1,24 @@
 -- For the layers above: single lists after a step, and rows whose chains alone were written.
-use Rattle.std.proofs.Common.{◌≡◌, ℕ, zero, suc, ◌+◌, ◌<◌, eqb, List, ◌∷◌, map, get_or, Some, sym, refl, ap, ◌∙◌, subst, arith}
+use Rattle.std.proofs.Common.{◌≡◌, ℕ, zero, suc, ◌+◌, ◌<◌, eqb, List, ◌∷◌, map, get_or, Some, sym, refl, ap, ◌∙◌, arith}
 use Rattle.std.proofs.lemmas.Bool.{eq-eqb, ne_eqb, cond-true, cond-false}
 use Rattle.std.proofs.lemmas.List.{get_or-set_other}
 use Rattle.std.proofs.lemmas.Bool.Decides.{nat_tests}
 use Rattle.recency.specs.Numbers.{count, without}
 use Rattle.recency.specs.Lists.{foremost}
 use Rattle.recency.proofs.Columns.{column_of_rest}
+use Rattle.slabs.specs.declared.row.Row.{Row}
+use Rattle.slabs.specs.declared.class.Class.{Class}
 use Rattle.slabs.specs.declared.class.Stand.TheVariants.{Held}
 use Rattle.slabs.specs.declared.slab.Slab.{Slab}
-use Rattle.slabs.specs.Rows.{rest, rests}
-use Rattle.slabs.specs.Layouts.{class_at, start}
+use Rattle.slabs.specs.Rows.{homes, rest, rests}
+use Rattle.slabs.specs.Layouts.{Layout, class_at, start}
 use Rattle.slabs.specs.Lists.{Family, held_of, into, out_of, shift, to_front, stocked}
-use Rattle.slabs.specs.Slabs.{rows_of, homes_of, layout, Lists, Sound, Shifted, Holds}
+use Rattle.slabs.specs.Slabs.{rows_of, homes_of, layout, Lists, InOrder, Shifted, Holds}
 use Rattle.slabs.specs.Records.{bytes_at, key_lens, data_lens, key_of, data_of}
 use Rattle.slabs.proofs.Families.{family_as, present}
 use Rattle.slabs.proofs.Ends.{class_is}
-use Rattle.slabs.proofs.Telling.{span_sum, sound_same}
+use Rattle.slabs.proofs.Sounds.{order_same}
+use Rattle.slabs.proofs.Telling.{spans_stay}
 
 module _ (i h : ℕ) (ls : ℕ → List ℕ) where
   pub into_there : into i h ls h ≡ i ∷ ls h
@@ -57,16 +60,16 @@ stocked_some first zero h ls some = absurd (omega arith)
 stocked_some first (suc n) h ls some = (first + n, ap foremost (into_there (first + n) h (stocked first n h ls)))
 
 -- a row in the list of a class's records holds a record of that class
-pub holds_listed : (s : Slab) → ∥ Sound s ∥₁ → (ls : ℕ → List ℕ) → Lists s ls → (class i : ℕ) → 0 < count i (ls (held_of class)) → Holds s i × (class_at (layout s) i ≡ class)
-holds_listed s t ls f class i there =
+pub holds_listed : (s : Slab) (ls : ℕ → List ℕ) → Lists s ls → (class i : ℕ) → 0 < count i (ls (held_of class)) → Holds s i × (class_at (layout s) i ≡ class)
+holds_listed s ls f class i there =
     let n = f.named (held_of class) i (omega arith) in
     let home : get_or (homes_of s) i 0 ≡ held_of class = grind (arith, nat_tests) in
-    let at = class_is s t i class Held home in
+    let at = class_is s i class Held home in
     (home ∙ ap held_of (sym at), at)
 
 -- and a row that holds a record is in that list
 pub listed_holds : (s : Slab) (ls : ℕ → List ℕ) → Lists s ls → (i : ℕ) → Holds s i → count i (ls (held_of (class_at (layout s) i))) ≡ 1
-listed_holds s ls f i held = present s.classes (rows_of s) ls f i (held_of (class_at (layout s) i)) (omega arith) held
+listed_holds s ls f i held = present s.classes.all (rows_of s) ls f i (held_of (class_at (layout s) i)) (omega arith) held
 
 -- a row that was not shifted holds what it held
 pub holds_off : (s t : Slab) (i from to : ℕ) → Shifted s t i from to → (j : ℕ) → (j ≡ i → ⊥) → Holds s j → Holds t j
@@ -85,13 +88,10 @@ record_same s t memory same e j =
           ∙ ap (λ n. bytes_at memory (start (layout s) j + get_or (key_lens (rows_of s)) j 0) n) blocks,
     )
 
--- rows that differ from those of a slab in their chains alone
-module _ (s t : Slab) (classes : t.classes ≡ s.classes) (next : map (λ r. r.next) (rows_of t) ≡ map (λ r. r.next) (rows_of s)) (prev : map (λ r. r.prev) (rows_of t) ≡ map (λ r. r.prev) (rows_of s)) (homes : homes_of t ≡ homes_of s) where
-  pub lists_rechained : (ls : ℕ → List ℕ) → Lists s ls → Lists t ls
-  lists_rechained ls f = subst (λ cs. Family cs (rows_of t) ls) (sym classes) (family_as s.classes (rows_of s) (rows_of t) ls next prev homes f)
+-- rows that differ in their chains alone
+module _ (classes : List Class) (rows rows' : List Row) (next : map (λ r. r.next) rows' ≡ map (λ r. r.next) rows) (prev : map (λ r. r.prev) rows' ≡ map (λ r. r.prev) rows) (stay : homes rows' ≡ homes rows) where
+  pub family_rechained : (ls : ℕ → List ℕ) → Family classes rows ls → Family classes rows' ls
+  family_rechained ls f = family_as classes rows rows' ls next prev stay f
 
-  pub sound_rechained : layout t ≡ layout s → key_lens (rows_of t) ≡ key_lens (rows_of s) → data_lens (rows_of t) ≡ data_lens (rows_of s) → Sound s → Sound t
-  sound_rechained same keys blocks z =
-      sound_same s t lists_rechained homes same
-      (λ j. let a = span_sum (rows_of t) j in let b = span_sum (rows_of s) j in let k = ap (λ xs. get_or xs j 0) keys in let d = ap (λ xs. get_or xs j 0) blocks in omega arith)
-      z
+  pub order_rechained : (l : Layout) → key_lens rows' ≡ key_lens rows → data_lens rows' ≡ data_lens rows → InOrder classes rows l → InOrder classes rows' l
+  order_rechained l keys blocks z = order_same classes classes rows rows' l z family_rechained stay (λ j class held. let a = spans_stay rows rows' keys blocks j in let f = z.fitting j class held in omega arith)

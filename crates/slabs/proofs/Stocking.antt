@@ -1,19 +1,20 @@
 -- Rows that enter a list one after the other.
-use Rattle.std.proofs.Common.{◌≡◌, ℕ, zero, suc, ◌+◌, ◌<◌, ◌≤◌, Bool, true, false, cond, eqb, List, length, get_or, set, refl, ap, ◌∙◌, ⊎_elim, arith, length-set}
+use Rattle.std.proofs.Common.{◌≡◌, ℕ, zero, suc, ◌+◌, ◌<◌, ◌≤◌, Bool, true, false, cond, eqb, List, map, length, get_or, set, refl, ap, ◌∙◌, ⊎_elim, arith, length-set}
 use Rattle.std.proofs.lemmas.List.{get_or-set_same, get_or-set_other}
 use Rattle.std.proofs.lemmas.Bool.{cases_eq}
-use Rattle.slabs.specs.declared.slab.Slab.{Slab}
-use Rattle.slabs.specs.Rows.{rests}
-use Rattle.slabs.specs.Lists.{stocked, filled}
-use Rattle.slabs.specs.Slabs.{rows_of, homes_of, layout, Lists}
+use Rattle.slabs.specs.declared.row.Row.{Row}
+use Rattle.slabs.specs.declared.class.Class.{Class}
+use Rattle.slabs.specs.Rows.{homes, rests}
+use Rattle.slabs.specs.Classes.{frame}
+use Rattle.slabs.specs.Lists.{Family, stocked, filled}
 use Rattle.slabs.proofs.Placing.{length_into}
 
 -- n rows, from the row `first` on, entered list h
-pub record Stocked (s t : Slab) (first n h : ℕ) : Type 0 where
-  pub lists : (ls : ℕ → List ℕ) → Lists s ls → Lists t (stocked first n h ls)
-  pub homes : homes_of t ≡ filled first n h (homes_of s)
-  pub same_rests : rests (rows_of t) ≡ rests (rows_of s)
-  pub same_layout : layout t ≡ layout s
+pub record Stocked (classes classes' : List Class) (rows rows' : List Row) (first n h : ℕ) : Type 0 where
+  pub lists : (ls : ℕ → List ℕ) → Family classes rows ls → Family classes' rows' (stocked first n h ls)
+  pub homes : homes rows' ≡ filled first n h (homes rows)
+  pub same_rests : rests rows' ≡ rests rows
+  pub same_frames : map frame classes' ≡ map frame classes
 
 pub filled_long : (first n h : ℕ) (homes : List ℕ) → length (filled first n h homes) ≡ length homes
 filled_long first zero h homes = refl

@@ -1,17 +1,18 @@
 -- What rows tell of records, after one was described.
-use Rattle.std.proofs.Common.{◌≡◌, ℕ, zero, suc, ◌+◌, ◌*◌, ◌<◌, ◌≤◌, List, [], ◌∷◌, length, get_or, sym, refl, ap, ◌∙◌, subst, arith}
+use Rattle.std.proofs.Common.{◌≡◌, ℕ, zero, suc, ◌+◌, ◌*◌, ◌<◌, ◌≤◌, List, [], ◌∷◌, length, get_or, sym, refl, ap, ◌∙◌, ⊎_elim, arith}
 use native.Mathlib.Bridge.{le_prop}
 use mathlib.Core.Logic.{∥∥₁_elim}
 use lib.ListN.{length-map}
 use Rattle.std.proofs.lemmas.List.{get_or-set_same, get_or-set_other}
+use Rattle.std.proofs.lemmas.Bool.{cases_eq}
 use Rattle.recency.proofs.Columns.{column_of_rest}
 use Rattle.slabs.specs.declared.row.Row.{Row}
 use Rattle.slabs.specs.declared.row.Tag.{Tag}
 use Rattle.slabs.specs.declared.slab.Slab.{Slab}
-use Rattle.slabs.specs.Rows.{rest, rests}
+use Rattle.slabs.specs.Rows.{homes, rest, rests}
 use Rattle.slabs.specs.Lists.{held_of}
-use Rattle.slabs.specs.Layouts.{Placed, Fitting, Full, start, size_at}
-use Rattle.slabs.specs.Slabs.{rows_of, homes_of, spans_of, layout, Lists, Sound, Holds}
+use Rattle.slabs.specs.Layouts.{Layout, Fitting, start, size_at}
+use Rattle.slabs.specs.Slabs.{rows_of, homes_of, spans_of, layout, Holds}
 use Rattle.slabs.specs.Records.{key_lens, data_lens, Described, Written, bytes_at, chunk_of, key_of, data_of}
 use Rattle.slabs.proofs.Bytes.{bytes_part}
 use Rattle.slabs.proofs.Ends.{chunk_inside, page_within, record_fits}
@@ -45,26 +46,37 @@ module _ (rows rows' : List Row) (i k d : ℕ) (tag : Tag) (told : Described row
   pub data_len_off : (j : ℕ) → (j ≡ i → ⊥) → get_or (data_lens rows') j 0 ≡ get_or (data_lens rows) j 0
   data_len_off j ne = ap (λ xs. get_or xs j 0) told.data_lens_are ∙ get_or-set_other (data_lens rows) i j d 0 ne
 
--- the row that was described holds no record yet
-pub sound_described : (s t : Slab) (i k d : ℕ) (tag : Tag) → ((class : ℕ) → get_or (homes_of s) i 0 ≡ held_of class → ⊥) → ((ls : ℕ → List ℕ) → Lists s ls → Lists t ls) → homes_of t ≡ homes_of s → layout t ≡ layout s → Described (rows_of s) (rows_of t) i k d tag → Sound s → Sound t
-sound_described s t i k d tag free lists homes same told z =
-    record {
-      lists = z.lists;
-      listed = lists z.lists z.listed;
-      placed = subst (λ x. Placed x (homes_of t)) (sym same) (subst (λ x. Placed (layout s) x) (sym homes) z.placed);
-      fitting =
-          subst (λ x. Fitting x (homes_of t) (spans_of (rows_of t))) (sym same)
-          (subst (λ x. Fitting (layout s) x (spans_of (rows_of t))) (sym homes)
-          (λ j class held.
-          let off : j ≡ i → ⊥ = λ e. free class (ap (λ x. get_or (homes_of s) x 0) (sym e) ∙ held) in
-          let a = span_sum (rows_of t) j in
-          let b = span_sum (rows_of s) j in
-          let c = key_len_off (rows_of s) (rows_of t) i k d tag told j off in
-          let e = data_len_off (rows_of s) (rows_of t) i k d tag told j off in
-          let f = z.fitting j class held in
-          omega arith));
-      full = λ g few. subst (λ x. Full x z.lists g) (sym same) (z.full g few);
-    }
+  -- another row's record is as long as it was
+  pub span_off : (j : ℕ) → (j ≡ i → ⊥) → get_or (spans_of rows') j 0 ≡ get_or (spans_of rows) j 0
+  span_off j ne =
+      let a = span_sum rows' j in
+      let b = span_sum rows j in
+      let c = key_len_off j ne in
+      let e = data_len_off j ne in
+      omega arith
+
+  -- the records fit their chunks still, if this one does
+  pub fitting_described : (l : Layout) → i < length rows → Fitting l (homes rows) (spans_of rows) → ((class : ℕ) → get_or (homes rows) i 0 ≡ held_of class → k + d ≤ get_or l.sizes class 0) → Fitting l (homes rows) (spans_of rows')
+  fitting_described l lt was fits j class held =
+      ⊎_elim
+      (λ (e : j ≡ i).
+      let a = span_sum rows' i in
+      let b = key_len_there lt in
+      let c = data_len_there lt in
+      let same = ap (λ x. get_or (spans_of rows') x 0) e in
+      let f = fits class (ap (λ x. get_or (homes rows) x 0) (sym e) ∙ held) in
+      omega arith)
+      (λ off. let a = span_off j off in let f = was j class held in omega arith)
+      (cases_eq j i)
+
+-- columns of lengths that stay
+pub spans_stay : (rows rows' : List Row) → key_lens rows' ≡ key_lens rows → data_lens rows' ≡ data_lens rows → (j : ℕ) → get_or (spans_of rows') j 0 ≡ get_or (spans_of rows) j 0
+spans_stay rows rows' keys blocks j =
+    let a = span_sum rows' j in
+    let b = span_sum rows j in
+    let k = ap (λ xs. get_or xs j 0) keys in
+    let d = ap (λ xs. get_or xs j 0) blocks in
+    omega arith
 
 -- the record of another row after a chunk was written
 pub record_kept : (s t : Slab) (i k d : ℕ) (tag : Tag) (memory memory' : List ℕ) → layout t ≡ layout s → Described (rows_of s) (rows_of t) i k d tag → (j : ℕ) → (j ≡ i → ⊥) → get_or (spans_of (rows_of s)) j 0 ≤ size_at (layout s) j → chunk_of s memory' j ≡ chunk_of s memory j → (key_of t memory' j ≡ key_of s memory j) × (data_of t memory' j ≡ data_of s memory j)
@@ -101,26 +113,12 @@ record_there s t i tag memory memory' key block lt same told w =
           ∙ w.block_there,
     )
 
--- rows that name the same lists and whose records are as long as they were
-pub sound_same : (s t : Slab) → ((ls : ℕ → List ℕ) → Lists s ls → Lists t ls) → homes_of t ≡ homes_of s → layout t ≡ layout s → ((j : ℕ) → get_or (spans_of (rows_of t)) j 0 ≡ get_or (spans_of (rows_of s)) j 0) → Sound s → Sound t
-sound_same s t lists homes same spans z =
-    record {
-      lists = z.lists;
-      listed = lists z.lists z.listed;
-      placed = subst (λ x. Placed x (homes_of t)) (sym same) (subst (λ x. Placed (layout s) x) (sym homes) z.placed);
-      fitting =
-          subst (λ x. Fitting x (homes_of t) (spans_of (rows_of t))) (sym same)
-          (subst (λ x. Fitting (layout s) x (spans_of (rows_of t))) (sym homes)
-          (λ j class held. let a = spans j in let f = z.fitting j class held in omega arith));
-      full = λ g few. subst (λ x. Full x z.lists g) (sym same) (z.full g few);
-    }
-
 -- a record lies in page memory
-pub record_end : (s : Slab) → ∥ Sound s ∥₁ → (i : ℕ) → Holds s i → (start (layout s) i + (get_or (key_lens (rows_of s)) i 0 + get_or (data_lens (rows_of s)) i 0) ≤ 4096 * s.pages) × (s.pages ≤ 256)
-record_end s t i held =
+pub record_end : (s : Slab) → (i : ℕ) → Holds s i → (start (layout s) i + (get_or (key_lens (rows_of s)) i 0 + get_or (data_lens (rows_of s)) i 0) ≤ 4096 * s.pages) × (s.pages ≤ 256)
+record_end s i held =
     let some : 0 < get_or (homes_of s) i 0 = omega arith in
-    let inside = chunk_inside s t i some in
-    let page = page_within s t i some in
-    let fits = record_fits s t i held in
+    let inside = chunk_inside s i some in
+    let page = page_within s i some in
+    let fits = record_fits s i held in
     let sum = span_sum (rows_of s) i in
-    (omega arith, ∥∥₁_elim t le_prop (λ z. z.placed.few))
+    (omega arith, ∥∥₁_elim s.ok le_prop (λ z. z.placed.few))

@@ -2,6 +2,7 @@ pub mod Rows
 pub mod Classes
 pub mod Lists
 pub mod Layouts
+pub mod Orders
 pub mod Slabs
 pub mod Records
 pub mod Openings

@@ -1,11 +1,11 @@
 -- The lists that rows are in: one family, by number. Each row names its list, so that it is in that one alone.
-use Rattle.std.specs.Prelude.{◌≡◌, ℕ, zero, suc, ◌+◌, ◌*◌, ◌<◌, Bool, cond, List, [], ◌∷◌, length, ◌==◌, slice_index, slice_set}
+use Rattle.std.specs.Prelude.{◌≡◌, ℕ, zero, suc, ◌+◌, ◌*◌, ◌<◌, Bool, cond, List, [], ◌∷◌, length, ◌==◌, slice_index, slice_index_or, slice_set}
 use Rattle.recency.specs.Numbers.{count, without}
 use Rattle.slabs.specs.declared.row.Row.{Row}
 use Rattle.slabs.specs.declared.class.Class.{Class}
 use Rattle.slabs.specs.declared.class.Stand.{Stand}
 use Rattle.slabs.specs.declared.class.Stand.TheVariants.{Free, Granted, Held}
-use Rattle.slabs.specs.Rows.{homes, RowsRead}
+use Rattle.slabs.specs.Rows.{blank, homes, RowsRead}
 use Rattle.slabs.specs.Classes.{list_at, count_at}
 
 -- the number of the list of a class's free chunks; 0 is no list
@@ -30,6 +30,10 @@ list_of Held class = held_of class
 abbrev pub keep : (ℕ → Bool) → List ℕ → List ℕ
 keep test [] = []
 keep test (x ∷ xs) = cond (test x) (x ∷ keep test xs) (keep test xs)
+
+-- what a test says of each of these rows is what `picks` has for its number
+abbrev pub Picks : (Row → Bool → Type 0) → List Row → (ℕ → Bool) → Type 0
+Picks says rows picks = (i : ℕ) (b : Bool) → says (slice_index_or rows i blank) b → b ≡ picks i
 
 -- the lists, by number, after row i was put at the front of list h
 abbrev pub into : ℕ → ℕ → (ℕ → List ℕ) → ℕ → List ℕ

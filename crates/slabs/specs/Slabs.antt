@@ -1,12 +1,12 @@
--- A slab, and when it is sound.
-use Rattle.std.specs.Prelude.{◌≡◌, ℕ, ◌+◌, ◌*◌, ◌<◌, Bool, true, false, List, map, is_some, Some, None, vec_items, Option, slice_index, slice_set}
+-- A slab, and what its operations do to it.
+use Rattle.std.specs.Prelude.{◌≡◌, ℕ, ◌*◌, Bool, true, false, List, is_some, Some, None, vec_items, Option, slice_index, slice_set}
 use Rattle.slabs.specs.declared.row.Row.{Row}
-use Rattle.slabs.specs.declared.class.Class.{Class}
 use Rattle.slabs.specs.declared.grant.Grant.{Grant}
 use Rattle.slabs.specs.declared.slab.Slab.{Slab}
 use Rattle.slabs.specs.Rows.{homes, rests}
 use Rattle.slabs.specs.Lists.{Family, shift, stocked, filled, free_of, granted_of, held_of}
-use Rattle.slabs.specs.Layouts.{Layout, Placed, Fitting, Full, class_at, with_page}
+use Rattle.slabs.specs.Layouts.{Layout, class_at, with_page}
+pub use Rattle.slabs.specs.Orders.{spans_of, cut, InOrder}
 
 -- the rows of a slab, by number
 abbrev pub rows_of : Slab → List Row
@@ -16,37 +16,17 @@ rows_of s = vec_items s.rows
 abbrev pub homes_of : Slab → List ℕ
 homes_of s = homes (rows_of s)
 
--- the length of key and data of each row
-abbrev pub spans_of : List Row → List ℕ
-spans_of rows = map (λ row. row.key_len + row.data_len) rows
-
--- how these classes cut pages with these owners
-abbrev pub cut : List Class → List ℕ → ℕ → ℕ → Layout
-cut classes owners given pages =
-    record {
-      sizes = map (λ class. class.size) classes;
-      chunks = map (λ class. class.chunks) classes;
-      shares = map (λ class. class.pages) classes;
-      owners = owners;
-      given = given;
-      pages = pages;
-    }
-
 -- how a slab's pages are cut, and whose they are
 abbrev pub layout : Slab → Layout
-layout s = cut s.classes s.owners s.given s.pages
+layout s = cut s.classes.all s.owners s.given s.pages
 
 -- these are the slab's lists, front to back, by number
 abbrev pub Lists : Slab → (ℕ → List ℕ) → Type 0
-Lists s lists = Family s.classes (rows_of s) lists
+Lists s lists = Family s.classes.all (rows_of s) lists
 
--- a slab whose lists, pages, chunks and counts are in order
-pub record Sound (s : Slab) : Type 0 where
-  pub lists : ℕ → List ℕ
-  pub listed : Lists s lists
-  pub placed : Placed (layout s) (homes_of s)
-  pub fitting : Fitting (layout s) (homes_of s) (spans_of (rows_of s))
-  pub full : (class : ℕ) → class < 33 → Full (layout s) lists class
+-- a slab whose lists, pages, chunks and counts are in order: each is, since its type says so
+abbrev pub Sound : Slab → Type 0
+Sound s = InOrder s.classes.all (rows_of s) (layout s)
 
 -- the row holds a record
 abbrev pub Holds : Slab → ℕ → Type 0

@@ -6,7 +6,7 @@ ghost use Rattle.recency.specs.Numbers.{count, without, Apart};
 ghost use Rattle.recency.specs.Lists.{foremost, rearmost};
 ghost use Rattle.slabs.specs.Rows.{homes, rests, RowsRead};
 ghost use Rattle.slabs.specs.Lists.{list_of};
-ghost use Rattle.slabs.specs.Classes.{place, no_list, frame, with_share, Fresh};
+ghost use Rattle.slabs.specs.Classes.{place, no_list, frame, Fresh};
 
 use crate::row::Row;
 use plan::Plan;
@@ -152,13 +152,5 @@ impl Class {
     {
         let at = place_of(stand);
         self.counts[at]
-    }
-
-    // Has one page more.
-    pub fn gain_page(&mut self)
-        requires { self.old.pages + 1 < 2 ^ 32 }
-        ensures { self.new ≡ with_share self.old (self.old.pages + 1) }
-    {
-        self.pages += 1;
     }
 }

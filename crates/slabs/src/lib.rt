@@ -3,6 +3,7 @@
 #![tactic(auto)]
 
 mod class;
+mod classes;
 mod grant;
 mod laws;
 mod row;
@@ -13,4 +14,3 @@ pub use grant::Grant;
 pub use laws::laws_stand;
 pub use row::{Row, Tag};
 pub use slab::{Slab, Tally};
-pub use walk::RowTest;

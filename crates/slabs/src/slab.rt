@@ -1,13 +1,13 @@
 //! A slab: the rows of all chunks, the classes, and which page was given to which class.
 
 ghost use Rattle.std.specs.Prelude.{◌≡◌};
+ghost use Rattle.slabs.specs.Orders.{cut, InOrder};
 
-use crate::class::Class;
+use crate::classes::Classes;
 use crate::row::Row;
 
 mod asking;
 mod chunks;
-mod lists;
 mod opening;
 mod pages;
 mod records;
@@ -30,10 +30,11 @@ const PAGE: usize = 4096;
 #[derive(Drop)]
 pub struct Slab {
     pub rows: Vec<Row>,
-    classes: [Class; 33],
+    classes: Classes,
     owners: [u8; 256],
     given: u32,
     pages: u32,
+    ghost ok: { ∥ InOrder classes.all rows.items (cut classes.all owners given pages) ∥₁ },
 }
 
 impl Slab {

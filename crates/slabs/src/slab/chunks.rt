@@ -1,41 +1,49 @@
 //! Chunks that are free, granted and returned, and records that leave or move.
 
-ghost use Rattle.std.specs.Prelude.{◌≡◌, ℕ, ◌<◌, List, ◌∷◌, ◌++◌, MatchOption, slice_index};
+ghost use Rattle.std.specs.Prelude.{◌≡◌, ℕ, ◌<◌, ◌≤◌, List, ◌∷◌, ◌++◌, MatchOption, slice_index};
 ghost use Rattle.std.specs.Option.{option_map};
 ghost use Rattle.recency.specs.Lists.{foremost, rearmost};
 ghost use Rattle.slabs.specs.Rows.{rests};
 ghost use Rattle.slabs.specs.Lists.{free_of, granted_of, held_of, list_of, to_front};
 ghost use Rattle.slabs.specs.Layouts.{class_at};
-ghost use Rattle.slabs.specs.Slabs.{rows_of, homes_of, layout, Lists, Sound, Shifted, Reordered, Taken, Holds, Granted, Tells};
+ghost use Rattle.slabs.specs.Slabs.{rows_of, homes_of, spans_of, layout, Lists, Shifted, Reordered, Taken, Holds, Granted, Tells};
 
-use super::{CLASSES, ROWS_PER_PAGE, Slab};
+use super::{ROWS_PER_PAGE, Slab};
 use crate::class::Stand;
 use crate::grant::Grant;
 
 impl Slab {
+    // Takes a row from one list of its class to the front of another.
+    pub(super) fn shift(&mut self, class: usize, from: Stand, to: Stand, i: u32)
+        requires home { slice_index (homes_of self.old) i ≡ list_of from class }
+        requires fits { list_of to class ≡ held_of class → slice_index (spans_of (rows_of self.old)) i ≤ slice_index (layout self.old).sizes class }
+        ensures shifted { Shifted self.old self.new i (list_of from class) (list_of to class) }
+        ensures rests { rests (rows_of self.new) ≡ rests (rows_of self.old) }
+    {
+        self.classes.shift(&mut self.rows, class, from, to, i);
+    }
+
+    // The row at the front of a list of a class, if there is one.
+    fn first(&self, class: usize, stand: Stand) -> Option<u32>
+        ensures { (ls : ℕ → List ℕ) → Lists self.now ls → result ≡ foremost (ls (list_of stand class)) }
+    {
+        self.classes.all.get(class)?.first(stand)
+    }
+
     /// Grants a free chunk of a class, if it has one.
     pub fn take(&mut self, class: usize) -> Option<Grant>
-        requires { ∥ Sound self.old ∥₁ }
-        ensures sound { ∥ Sound self.new ∥₁ }
         ensures found { (ls : ℕ → List ℕ) → Lists self.old ls → option_map (λ grant. grant.row) result ≡ foremost (ls (free_of class)) }
         ensures taken { MatchOption result (self.new ≡ self.old) (λ grant. Taken self.old self.new class grant) }
         ensures rests { rests (rows_of self.new) ≡ rests (rows_of self.old) }
     {
-        if class >= CLASSES {
-            return None;
-        }
-        let Some(row) = self.classes[class].first(Stand::Free) else {
-            return None;
-        };
+        let row = self.first(class, Stand::Free)?;
         self.shift(class, Stand::Free, Stand::Granted, row);
         Some(Grant { row, class })
     }
 
     /// Returns a grant: its chunk is free again.
     pub fn give_back(&mut self, grant: Grant)
-        requires sound { ∥ Sound self.old ∥₁ }
-        requires granted { Granted self.old grant }
-        ensures sound { ∥ Sound self.new ∥₁ }
+        requires { Granted self.old grant }
         ensures returned { Shifted self.old self.new grant.row (granted_of grant.class) (free_of grant.class) }
         ensures rests { rests (rows_of self.new) ≡ rests (rows_of self.old) }
     {
@@ -45,9 +53,7 @@ impl Slab {
 
     /// Removes a record: its chunk is free.
     pub fn remove(&mut self, i: u32)
-        requires sound { ∥ Sound self.old ∥₁ }
-        requires held { Holds self.old i }
-        ensures sound { ∥ Sound self.new ∥₁ }
+        requires { Holds self.old i }
         ensures removed { Shifted self.old self.new i (held_of (class_at (layout self.old) i)) (free_of (class_at (layout self.old) i)) }
         ensures rests { rests (rows_of self.new) ≡ rests (rows_of self.old) }
     {
@@ -57,41 +63,30 @@ impl Slab {
 
     /// Moves a record to the front of its class.
     pub fn move_to_front(&mut self, i: u32)
-        requires sound { ∥ Sound self.old ∥₁ }
-        requires held { Holds self.old i }
-        ensures sound { ∥ Sound self.new ∥₁ }
-        ensures moved { Reordered self.old self.new (to_front i (held_of (class_at (layout self.old) i))) }
+        requires { Holds self.old i }
+        ensures { Reordered self.old self.new (to_front i (held_of (class_at (layout self.old) i))) }
     {
         let class = self.class_of(i);
-        self.refresh(class, Stand::Held, i);
+        self.classes.refresh(&mut self.rows, class, Stand::Held, i);
     }
 
     /// The record at the back of a class, if it has one.
     pub fn rearmost(&self, class: usize) -> Option<u32>
-        requires { ∥ Sound self.now ∥₁ }
         ensures { (ls : ℕ → List ℕ) → Lists self.now ls → result ≡ rearmost (ls (held_of class)) }
     {
-        if class >= CLASSES {
-            return None;
-        }
-        self.classes[class].last(Stand::Held)
+        self.classes.all.get(class)?.last(Stand::Held)
     }
 
     /// The record at the front of a class, if it has one.
     pub fn foremost(&self, class: usize) -> Option<u32>
-        requires { ∥ Sound self.now ∥₁ }
         ensures { (ls : ℕ → List ℕ) → Lists self.now ls → result ≡ foremost (ls (held_of class)) }
     {
-        if class >= CLASSES {
-            return None;
-        }
-        self.classes[class].first(Stand::Held)
+        self.first(class, Stand::Held)
     }
 
     /// The record ahead of one in its class, towards the front: a walk from the back goes on here.
     pub fn ahead_of(&self, i: u32) -> Option<u32>
-        requires sound { ∥ Sound self.now ∥₁ }
-        requires held { Holds self.now i }
+        requires { Holds self.now i }
         ensures { (ls : ℕ → List ℕ) → Lists self.now ls → (a b : List ℕ) → ls (held_of (class_at (layout self.now) i)) ≡ a ++ i ∷ b → result ≡ rearmost a }
     {
         recency::ahead_of(&self.rows, i)
@@ -99,7 +94,6 @@ impl Slab {
 
     /// The class of a record, if the row holds one.
     pub fn class_held(&self, i: u32) -> Option<usize>
-        requires { ∥ Sound self.now ∥₁ }
         ensures { Tells self.now i result (λ class. (class ≡ class_at (layout self.now) i) × (class < 33)) }
     {
         if self.holds(i) {
@@ -111,8 +105,7 @@ impl Slab {
 
     // The class of the page of a row that is in a list.
     pub(super) fn class_of(&self, i: u32) -> usize
-        requires sound { ∥ Sound self.now ∥₁ }
-        requires listed { 0 < slice_index (homes_of self.now) i }
+        requires { 0 < slice_index (homes_of self.now) i }
         ensures value { result ≡ class_at (layout self.now) i }
         ensures few { result < 33 }
     {

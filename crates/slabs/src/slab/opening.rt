@@ -1,29 +1,15 @@
 //! Opening a slab over rows that it is handed.
 
-ghost use Rattle.std.specs.Prelude.{◌≡◌, ℕ, ◌<◌, List, [], length, replicate, vec_len, slice_index_or};
+ghost use Rattle.std.specs.Prelude.{◌≡◌, [], length, replicate, vec_len};
 ghost use Rattle.plan.specs.Plans.{plan_sizes};
 ghost use Rattle.slabs.specs.Rows.{blank};
-ghost use Rattle.slabs.specs.Classes.{no_class, Fresh};
-ghost use Rattle.slabs.specs.Slabs.{Lists, Sound};
+ghost use Rattle.slabs.specs.Slabs.{Lists};
 ghost use Rattle.slabs.specs.Openings.{Opened, pages_of};
 
-use super::{CLASSES, MOST_PAGES, ROWS_PER_PAGE, Slab};
-use crate::class::Class;
+use super::{MOST_PAGES, ROWS_PER_PAGE, Slab};
+use crate::classes::Classes;
 use crate::row::Row;
 use plan::Plan;
-
-// The classes of a plan, with no pages; class 0 and those past the plan's are no classes.
-fn cut_classes(plan: &Plan) -> [Class; 33]
-    ensures long { length result ≡ 33 }
-    ensures classes { (class : ℕ) → class < 33 → Fresh (plan_sizes plan.now) class (slice_index_or result class no_class) }
-{
-    let none = Class::planned(plan, 0);
-    let mut classes = [none; CLASSES];
-    for class in 1..CLASSES {
-        classes[class] = Class::planned(plan, class);
-    }
-    classes
-}
 
 // Leaves nothing of what rows held.
 fn blank_rows(rows: &mut [Row])
@@ -56,14 +42,13 @@ fn unowned() -> [u8; 256]
 impl Slab {
     /// A slab with no records over these rows, 85 for each page. What the rows held before does not matter.
     pub fn open(plan: &Plan, mut rows: Vec<Row>) -> Slab
-        ensures sound { ∥ Sound result ∥₁ }
         ensures empty { Lists result (λ _. []) }
         ensures opened { Opened (plan_sizes plan.now) (vec_len rows) result }
     {
         let pages = pages_for(rows.len());
         rows.truncate(ROWS_PER_PAGE * pages);
         blank_rows(&mut rows);
-        let classes = cut_classes(plan);
+        let classes = Classes::planned(plan);
         let owners = unowned();
         Slab {
             rows,

@@ -5,35 +5,15 @@ ghost use Rattle.slabs.specs.Rows.{rests};
 ghost use Rattle.slabs.specs.Classes.{count_at};
 ghost use Rattle.slabs.specs.declared.class.Stand.TheVariants.{Free};
 ghost use Rattle.slabs.specs.Lists.{free_of, granted_of, held_of, stocked, filled};
-ghost use Rattle.slabs.specs.Slabs.{rows_of, homes_of, layout, Lists, Sound, PageGiven};
+ghost use Rattle.slabs.specs.Slabs.{rows_of, homes_of, layout, Lists, PageGiven};
 
 use super::{CLASSES, ROWS_PER_PAGE, Slab};
 use crate::class::Stand;
 
 impl Slab {
-    // Puts rows that are in no list, from the row `first` on, among the free chunks of a class.
-    fn stock(&mut self, class: usize, first: u32, chunks: u32)
-        requires class { class < 33 }
-        requires within { first + chunks ≤ length (rows_of self.old) }
-        requires few { first + chunks < 2 ^ 32 }
-        requires room { count_at self.old.classes class Free + chunks < 2 ^ 32 }
-        requires lists { ∥ ((ls : ℕ → List ℕ) × Lists self.old ls) ∥₁ }
-        requires homeless { (k : ℕ) → k < chunks → slice_index (homes_of self.old) (first + k) ≡ 0 }
-        ensures lists { (ls : ℕ → List ℕ) → Lists self.old ls → Lists self.new (stocked first chunks (free_of class) ls) }
-        ensures homes { homes_of self.new ≡ filled first chunks (free_of class) (homes_of self.old) }
-        ensures rests { rests (rows_of self.new) ≡ rests (rows_of self.old) }
-        ensures layout { layout self.new ≡ layout self.old }
-    {
-        for place in 0..chunks {
-            self.enter(class, Stand::Free, first + place);
-        }
-    }
-
     /// Gives the next free page to a class: all its chunks are free. False, and nothing done, where there is no free
     /// page or no such class.
     pub fn give_page(&mut self, class: usize) -> bool
-        requires { ∥ Sound self.old ∥₁ }
-        ensures sound { ∥ Sound self.new ∥₁ }
         ensures answer { result ≡ (nat_lt self.old.given self.old.pages && nat_lt 0 (slice_index (layout self.old).chunks class)) }
         ensures given { MatchBool result (PageGiven self.old self.new class) (self.new ≡ self.old) }
         ensures rests { rests (rows_of self.new) ≡ rests (rows_of self.old) }
@@ -44,13 +24,14 @@ impl Slab {
         if class >= CLASSES {
             return false;
         }
-        let chunks = self.classes[class].chunks;
+        let chunks = self.classes.all[class].chunks;
         if chunks == 0 {
             return false;
         }
         let page = self.given;
-        self.stock(class, ROWS_PER_PAGE as u32 * page, chunks);
-        self.classes[class].gain_page();
+        self.classes
+            .stock(&mut self.rows, class, ROWS_PER_PAGE as u32 * page, chunks);
+        self.classes.all[class].pages += 1;
         self.owners[page as usize] = class as u8;
         self.given = page + 1;
         true
@@ -69,7 +50,6 @@ pub struct Tally {
 impl Slab {
     /// The counts of a class, all 0 where there is no such class. Every chunk of its pages is free, granted or used.
     pub fn tally(&self, class: usize) -> Tally
-        requires { ∥ Sound self.now ∥₁ }
         ensures pages { result.pages ≡ slice_index (layout self.now).shares class }
         ensures counts { (ls : ℕ → List ℕ) → Lists self.now ls → (result.free ≡ length (ls (free_of class))) × (result.granted ≡ length (ls (granted_of class))) × (result.used ≡ length (ls (held_of class))) }
         ensures whole { result.free + result.granted + result.used ≡ result.pages * slice_index (layout self.now).chunks class }
@@ -83,16 +63,15 @@ impl Slab {
             };
         }
         Tally {
-            pages: self.classes[class].pages,
-            free: self.classes[class].count(Stand::Free),
-            granted: self.classes[class].count(Stand::Granted),
-            used: self.classes[class].count(Stand::Held),
+            pages: self.classes.all[class].pages,
+            free: self.classes.all[class].count(Stand::Free),
+            granted: self.classes.all[class].count(Stand::Granted),
+            used: self.classes.all[class].count(Stand::Held),
         }
     }
 
     /// How many pages were not given out yet.
     pub fn free_pages(&self) -> u32
-        requires { ∥ Sound self.now ∥₁ }
         ensures { self.now.given + result ≡ self.now.pages }
     {
         self.pages - self.given

@@ -4,7 +4,7 @@ ghost use Rattle.std.specs.Prelude.{◌≡◌, ℕ, ◌+◌, ◌*◌, ◌<◌, �
 ghost use Rattle.slabs.specs.Rows.{homes};
 ghost use Rattle.slabs.specs.Lists.{granted_of, held_of};
 ghost use Rattle.slabs.specs.Layouts.{start, Chunk};
-ghost use Rattle.slabs.specs.Slabs.{rows_of, homes_of, layout, Lists, Sound, Shifted, Holds, Granted};
+ghost use Rattle.slabs.specs.Slabs.{rows_of, homes_of, layout, Lists, Shifted, Holds, Granted};
 ghost use Rattle.slabs.specs.Records.{Described, Written, Retagged, chunk_of, key_of, data_of, key_lens, data_lens, tags};
 
 use super::{CLASSES, PAGE, ROWS_PER_PAGE, Slab};
@@ -41,9 +41,10 @@ fn describe_row(rows: &mut [Row], i: u32, key_len: u32, data_len: u32, tag: Tag)
 }
 
 impl Slab {
-    // Has the row of a chunk tell of a record.
+    // Has the row of a chunk tell of a record, which fits the chunk if the row holds it already.
     fn describe(&mut self, i: u32, key_len: u32, data_len: u32, tag: Tag)
-        requires { i < length (rows_of self.old) }
+        requires within { i < length (rows_of self.old) }
+        requires fits { (class : ℕ) → slice_index (homes_of self.old) i ≡ held_of class → key_len + data_len ≤ slice_index (layout self.old).sizes class }
         ensures lists { (ls : ℕ → List ℕ) → Lists self.old ls → Lists self.new ls }
         ensures homes { homes_of self.new ≡ homes_of self.old }
         ensures layout { layout self.new ≡ layout self.old }
@@ -54,14 +55,13 @@ impl Slab {
 
     // Where the chunk of a row that is in a list begins.
     pub(super) fn start(&self, i: u32) -> usize
-        requires sound { ∥ Sound self.now ∥₁ }
-        requires listed { 0 < slice_index (homes_of self.now) i }
+        requires { 0 < slice_index (homes_of self.now) i }
         ensures { result ≡ start (layout self.now) i }
     {
         let class = self.class_of(i);
         let page = i as usize / ROWS_PER_PAGE;
         let place = i as usize % ROWS_PER_PAGE;
-        page * PAGE + place * self.classes[class].size as usize
+        page * PAGE + place * self.classes.all[class].size as usize
     }
 
     /// Fills a granted chunk with a key and its data: it becomes the front record of its class. Gives its row.
@@ -73,11 +73,9 @@ impl Slab {
         block: &[u8],
         tag: Tag,
     ) -> u32
-        requires sound { ∥ Sound self.old ∥₁ }
         requires granted { Granted self.old grant }
         requires fits { length key.now + length block.now ≤ slice_index (layout self.old).sizes grant.class }
         requires memory { 4096 * self.old.pages ≤ length memory.old }
-        ensures sound { ∥ Sound self.new ∥₁ }
         ensures row { result ≡ grant.row }
         ensures held { Holds self.new result }
         ensures linked { Shifted self.old self.new grant.row (granted_of grant.class) (held_of grant.class) }
@@ -97,8 +95,7 @@ impl Slab {
 
     // The row of a record.
     pub(super) fn row(&self, i: u32) -> Row
-        requires sound { ∥ Sound self.now ∥₁ }
-        requires held { Holds self.now i }
+        requires { Holds self.now i }
         ensures key { result.key_len ≡ slice_index (key_lens (rows_of self.now)) i }
         ensures block { result.data_len ≡ slice_index (data_lens (rows_of self.now)) i }
         ensures tag { (d : Tag) → result.tag ≡ slice_index_or (tags (rows_of self.now)) i d }
@@ -108,7 +105,6 @@ impl Slab {
 
     /// Whether a row holds a record.
     pub fn holds(&self, i: u32) -> bool
-        requires { ∥ Sound self.now ∥₁ }
         ensures { Decides result (Holds self.now i) }
     {
         if i as usize >= self.rows.len() {
@@ -120,19 +116,17 @@ impl Slab {
 
     /// The size of a class's chunks, 0 where there is no such class.
     pub fn size(&self, class: usize) -> u32
-        requires { ∥ Sound self.now ∥₁ }
         ensures { result ≡ slice_index (layout self.now).sizes class }
     {
         if class >= CLASSES {
             0
         } else {
-            self.classes[class].size
+            self.classes.all[class].size
         }
     }
 
     /// The key of a record, where it lies in page memory.
     pub fn key_of<'a>(&self, memory: &'a [u8], i: u32) -> &'a [u8]
-        requires sound { ∥ Sound self.now ∥₁ }
         requires held { Holds self.now i }
         requires memory { 4096 * self.now.pages ≤ length memory.now }
         ensures { result.now ≡ key_of self.now memory.now i }
@@ -145,7 +139,6 @@ impl Slab {
 
     /// The data of a record, where it lies in page memory.
     pub fn data_of<'a>(&self, memory: &'a [u8], i: u32) -> &'a [u8]
-        requires sound { ∥ Sound self.now ∥₁ }
         requires held { Holds self.now i }
         requires memory { 4096 * self.now.pages ≤ length memory.now }
         ensures { result.now ≡ data_of self.now memory.now i }
@@ -158,8 +151,7 @@ impl Slab {
 
     /// What is told of a record beside its key and data.
     pub fn tag(&self, i: u32) -> Tag
-        requires sound { ∥ Sound self.now ∥₁ }
-        requires held { Holds self.now i }
+        requires { Holds self.now i }
         ensures { (d : Tag) → result ≡ slice_index_or (tags (rows_of self.now)) i d }
     {
         self.row(i).tag
@@ -167,10 +159,8 @@ impl Slab {
 
     /// Tells something else of a record.
     pub fn set_tag(&mut self, i: u32, tag: Tag)
-        requires sound { ∥ Sound self.old ∥₁ }
-        requires held { Holds self.old i }
-        ensures sound { ∥ Sound self.new ∥₁ }
-        ensures retagged { Retagged self.old self.new i tag }
+        requires { Holds self.old i }
+        ensures { Retagged self.old self.new i tag }
     {
         let row = self.row(i);
         self.describe(i, row.key_len, row.data_len, tag);

@@ -45,4 +45,4 @@ shares s t class some =
     omega arith
 
 pub returns : goal.returns
-returns c = record { apart = lie_apart; inside = inside; stands = stands; shares = shares }
+returns c = record { apart = λ s _. lie_apart s; inside = inside; stands = stands; shares = shares }

@@ -3,7 +3,7 @@ use Rattle.std.proofs.lemmas.Bool.{true≢false}
 use Rattle.slabs.proofs.slab.Slab.ahead_if_held.Goals as goal
 
 pub ahead_of-requires : goal.ahead_of-requires
-ahead_of-requires c = record { sound = c.requires; held = c.holds.ensures.0 c.if-holds.true }
+ahead_of-requires c = c.holds.ensures.0 c.if-holds.true
 
 pub returns-then-holds : goal.returns-then-holds
 returns-then-holds c = record {

@@ -10,14 +10,14 @@ use Rattle.slabs.proofs.slab.Slab.ahead_of.Goals as goal
 pub ahead_of-requires : goal.ahead_of-requires
 ahead_of-requires c =
     let s = c.args.self.now in
-    omega (arith, ap length c.deref.ensures.value, row_within s c.requires.sound c.args.i (class_at (layout s) c.args.i) Held c.requires.held)
+    omega (arith, ap length c.deref.ensures.value, row_within s c.args.i (class_at (layout s) c.args.i) Held c.requires)
 
 pub returns : goal.returns
 returns c = λ ls f a b e.
     let s = c.args.self.now in
     let i = c.args.i in
     let class = class_at (layout s) i in
-    let list = list_at s.classes class Held in
+    let list = list_at s.classes.all class Held in
     c.ahead_of.ensures list a b
     (subst (λ rows. RowsRead list rows (a ++ i ∷ b)) (sym c.deref.ensures.value)
-    (subst (λ ids. RowsRead list (rows_of s) ids) e (f.reads class Held (class_few s c.requires.sound i class Held c.requires.held))))
+    (subst (λ ids. RowsRead list (rows_of s) ids) e (f.reads class Held (class_few s i class Held c.requires))))

@@ -6,7 +6,7 @@ use Rattle.slabs.proofs.Answering.{answered, unanswered}
 use Rattle.slabs.proofs.slab.Slab.class_held.Goals as goal
 
 pub class_of-requires : goal.class_of-requires
-class_of-requires c = record { sound = c.requires; listed = rw (c.holds.ensures.0 c.if-holds.true) (omega arith) }
+class_of-requires c = rw (c.holds.ensures.0 c.if-holds.true) (omega arith)
 
 pub returns-then-holds : goal.returns-then-holds
 returns-then-holds c = answered c.args.self.now c.args.i (c.holds.ensures.0 c.if-holds.true) c.class_of.result (λ class. (class ≡ class_at (layout c.args.self.now) c.args.i) × (class < 33)) (c.class_of.ensures.value, c.class_of.ensures.few)

@@ -8,14 +8,14 @@ use Rattle.slabs.proofs.Answering.{answered, unanswered}
 use Rattle.slabs.proofs.slab.Slab.data_if_held.Goals as goal
 
 pub row-row-requires : goal.row-row-requires
-row-row-requires c = record { sound = c.requires; held = c.holds.ensures.0 c.if-not-holds.false }
+row-row-requires c = c.holds.ensures.0 c.if-not-holds.false
 
 pub start-requires : goal.start-requires
-start-requires c = record { sound = c.requires; listed = rw (c.holds.ensures.0 c.if-not-holds.false) (omega arith) }
+start-requires c = rw (c.holds.ensures.0 c.if-not-holds.false) (omega arith)
 
 pub overflow_add-at : goal.overflow_add-at
 overflow_add-at c =
-    let end = record_end c.args.self.now c.requires c.args.i (c.holds.ensures.0 c.if-not-holds.false) in
+    let end = record_end c.args.self.now c.args.i (c.holds.ensures.0 c.if-not-holds.false) in
     let few = end.1 in
     omega (arith, end.0, c.row-row.ensures.key, c.start.ensures)
 

@@ -14,10 +14,10 @@ returns-then-i-len c =
     (λ e. absurd (true≢false (sym e)), λ held. absurd (omega arith))
 
 pub bounds-self-i : goal.bounds-self-i
-bounds-self-i c = page_of_row c.args.self.now c.requires c.args.i (omega (arith, c.len.ensures))
+bounds-self-i c = page_of_row c.args.self.now c.args.i (omega (arith, c.len.ensures))
 
 pub number-requires : goal.number-requires
-number-requires c = owners_few c.args.self.now c.requires (c.args.i / 85)
+number-requires c = owners_few c.args.self.now (c.args.i / 85)
 
 pub returns : goal.returns
 returns c =

@@ -7,7 +7,7 @@ use Rattle.slabs.proofs.Answering.{answered, unanswered}
 use Rattle.slabs.proofs.slab.Slab.key_if_held.Goals as goal
 
 pub row-len-requires : goal.row-len-requires
-row-len-requires c = record { sound = c.requires; held = c.holds.ensures.0 c.if-not-holds.false }
+row-len-requires c = c.holds.ensures.0 c.if-not-holds.false
 
 pub returns : goal.returns
 returns c = answered c.args.self.now c.args.i (c.holds.ensures.0 c.if-not-holds.false) c.bytes_of.result (λ key. key.now ≡ key_of c.args.self.now c.args.memory.now c.args.i) (c.bytes_of.ensures ∙ ap (λ n. bytes_at c.args.memory.now (start (layout c.args.self.now) c.args.i) n) c.row-len.ensures.key)

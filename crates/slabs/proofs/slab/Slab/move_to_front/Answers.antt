@@ -1,33 +1,62 @@
-use Rattle.std.proofs.Common.{sym, ap, ◌∙◌, subst, arith}
+use Rattle.std.proofs.Common.{◌≡◌, ℕ, List, length, get_or, vec_items, sym, ap, ◌∙◌, subst, arith}
+use Rattle.std.specs.Vec.{with_items}
 use mathlib.Core.Logic.{∥∥₁_map}
+use lib.ListN.{length-map}
 use Rattle.slabs.specs.declared.class.Stand.TheVariants.{Held}
-use Rattle.slabs.specs.Layouts.{class_at}
-use Rattle.slabs.specs.Lists.{held_of, to_front}
-use Rattle.slabs.specs.Slabs.{layout, Reordered}
-use Rattle.slabs.proofs.Sounds.{some_lists, row_within, class_few, sound_front}
+use Rattle.slabs.specs.Rows.{homes, rest}
+use Rattle.slabs.specs.Lists.{Family, held_of, to_front}
+use Rattle.slabs.specs.Orders.{InOrder}
+use Rattle.slabs.specs.Slabs.{homes_of, layout}
+use Rattle.slabs.proofs.Cuts.{cut_same}
+use Rattle.slabs.proofs.Lending.{lists_back, homes_back, rests_back}
+use Rattle.slabs.proofs.Sounds.{some_lists, row_within, order_front}
 use Rattle.slabs.proofs.slab.Slab.move_to_front.Goals as goal
 
 pub refresh-requires : goal.refresh-requires
 refresh-requires c =
     let s = c.args.self.now in
-    let home = c.requires.held ∙ ap held_of (sym c.class_of-class.ensures.value) in
+    let is : c.deref_mut.result.now ≡ vec_items s.rows = c.deref_mut.ensures.value in
+    let home : get_or (homes_of s) c.args.i 0 ≡ held_of c.class_of-class.result = c.requires ∙ ap held_of (sym c.class_of-class.ensures.value) in
     record {
-      class = class_few s c.requires.sound c.args.i c.class_of-class.result Held home;
-      within = row_within s c.requires.sound c.args.i c.class_of-class.result Held home;
-      lists = some_lists s c.requires.sound;
-      home = home;
+      class = c.class_of-class.ensures.few;
+      within = omega (arith, ap length is, row_within s c.args.i c.class_of-class.result Held home);
+      lists = subst (λ rows. ∥ ((ls : ℕ → List ℕ) × Family s.classes.all rows ls) ∥₁) (sym is) (some_lists s);
+      home = ap (λ rows. get_or (homes rows) c.args.i 0) is ∙ home;
+    }
+
+pub invariant_of-self : goal.invariant_of-self
+invariant_of-self c =
+    let s = c.args.self.now in
+    let i = c.args.i in
+    let h = held_of c.class_of-class.result in
+    let lent = c.deref_mut.result.now in
+    let ws = c.refresh.new.rows in
+    let is = c.deref_mut.ensures.value in
+    let told = c.refresh.ensures in
+    let long : length ws ≡ s.rows.len = omega (arith, ap length told.rests, length-map ws rest, length-map lent rest, c.deref_mut.ensures.len) in
+    let rows = vec_items (with_items s.rows ws) in
+    let home : get_or (homes_of s) i 0 ≡ h = c.requires ∙ ap held_of (sym c.class_of-class.ensures.value) in
+    record {
+      ok = subst (λ l. ∥ InOrder c.refresh.new.self.all rows l ∥₁) (sym (cut_same s.classes.all c.refresh.new.self.all s.owners s.given s.pages told.frames))
+          (∥∥₁_map s.ok (λ z. order_front s.classes.all c.refresh.new.self.all (vec_items s.rows) rows (layout s) z i h (omega arith) home
+          (lists_back s.rows lent ws is long s.classes.all c.refresh.new.self.all (to_front i h) told.lists)
+          (homes_back s.rows lent ws is long (λ hs. hs) told.homes)
+          (rests_back s.rows lent ws is long told.rests)));
     }
 
 pub returns : goal.returns
 returns c =
     let s = c.args.self.now in
-    let t = c.refresh.new.self in
-    let told = c.refresh.ensures in
     let i = c.args.i in
-    let moved : Reordered s t (to_front i (held_of (class_at (layout s) i))) =
-    subst (λ k. Reordered s t (to_front i (held_of k))) c.class_of-class.ensures.value
-    (record { lists = told.lists; homes = told.homes; rests = told.rests; layout = told.layout }) in
-    record {
-      sound = ∥∥₁_map c.requires.sound (sound_front s t i (held_of (class_at (layout s) i)) (omega arith) c.requires.held moved);
-      moved = moved;
-    }
+    let lent = c.deref_mut.result.now in
+    let ws = c.refresh.new.rows in
+    let is = c.deref_mut.ensures.value in
+    let told = c.refresh.ensures in
+    let long : length ws ≡ s.rows.len = omega (arith, ap length told.rests, length-map ws rest, length-map lent rest, c.deref_mut.ensures.len) in
+    rw (← c.class_of-class.ensures.value)
+    (record {
+      lists = lists_back s.rows lent ws is long s.classes.all c.refresh.new.self.all (to_front i (held_of c.class_of-class.result)) told.lists;
+      homes = homes_back s.rows lent ws is long (λ hs. hs) told.homes;
+      rests = rests_back s.rows lent ws is long told.rests;
+      layout = cut_same s.classes.all c.refresh.new.self.all s.owners s.given s.pages told.frames;
+    })

@@ -1,13 +1,18 @@
-use Rattle.std.proofs.Common.{sym, ap, arith}
+use Rattle.std.proofs.Common.{sym, ap, ◌∙◌, arith}
 use Rattle.recency.specs.Lists.{rearmost}
 use Rattle.slabs.specs.declared.class.Stand.TheVariants.{Held}
+use Rattle.slabs.specs.Classes.{no_class}
 use Rattle.slabs.specs.Lists.{held_of}
 use Rattle.slabs.specs.Slabs.{rows_of}
-use Rattle.slabs.proofs.Ends.{beyond}
+use Rattle.slabs.proofs.Ends.{beyond, classes_long}
 use Rattle.slabs.proofs.slab.Slab.rearmost.Goals as goal
 
-pub returns-then-class-ge-CLASSES : goal.returns-then-class-ge-CLASSES
-returns-then-class-ge-CLASSES c = λ ls f. sym (ap rearmost (beyond c.args.self.now c.requires ls f Held c.args.class (omega arith)))
+pub returns-in_err-get : goal.returns-in_err-get
+returns-in_err-get c = λ ls f. let past = c.in_err-get.ensures.lookup.3 in c.from_residual.ensures ∙ sym (ap rearmost (beyond c.args.self.now ls f Held c.args.class (omega (arith, classes_long c.args.self.now))))
 
 pub returns : goal.returns
-returns c = λ ls f. c.last.ensures (rows_of c.args.self.now) (ls (held_of c.args.class)) (f.reads c.args.class Held c.if-class-ge-CLASSES.false)
+returns c = λ ls f.
+    let s = c.args.self.now in
+    let there = c.in_ok-get.ensures.lookup.3 in
+    let read = f.reads c.args.class Held (omega (arith, classes_long s)) in
+    c.last.ensures (rows_of s) (ls (held_of c.args.class)) (rw (there.1 no_class) read)

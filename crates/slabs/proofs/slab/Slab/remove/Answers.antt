@@ -6,8 +6,7 @@ use Rattle.slabs.proofs.slab.Slab.remove.Goals as goal
 pub shift-requires : goal.shift-requires
 shift-requires c =
     record {
-      sound = c.requires.sound;
-      home = c.requires.held ∙ ap held_of (sym c.class_of-class.ensures.value);
+      home = c.requires ∙ ap held_of (sym c.class_of-class.ensures.value);
       fits = λ e. absurd (omega arith);
     }
 
@@ -15,7 +14,6 @@ pub returns : goal.returns
 returns c =
     let told = c.shift.ensures in
     record {
-      sound = told.sound;
       removed = subst (λ k. Shifted c.args.self.now c.shift.new.self c.args.i (held_of k) (free_of k)) c.class_of-class.ensures.value told.shifted;
       rests = told.rests;
     }

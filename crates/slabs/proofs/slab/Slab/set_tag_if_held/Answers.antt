@@ -3,13 +3,10 @@ use Rattle.std.proofs.lemmas.Bool.{true≢false}
 use Rattle.slabs.proofs.slab.Slab.set_tag_if_held.Goals as goal
 
 pub set_tag-requires : goal.set_tag-requires
-set_tag-requires c = record { sound = c.requires; held = c.holds.ensures.0 c.if-not-holds.false }
+set_tag-requires c = c.holds.ensures.0 c.if-not-holds.false
 
 pub returns : goal.returns
-returns c = record {
-  sound = c.set_tag.ensures.sound;
-  retagged = record { yes = λ _. (refl, c.set_tag.ensures.retagged); no = λ no. absurd (no (c.holds.ensures.0 c.if-not-holds.false)) };
-}
+returns c = record { yes = λ _. (refl, c.set_tag.ensures); no = λ no. absurd (no (c.holds.ensures.0 c.if-not-holds.false)) }
 
 pub returns-then-not-holds : goal.returns-then-not-holds
-returns-then-not-holds c = record { sound = c.requires; retagged = record { yes = λ h. absurd (true≢false (sym (c.holds.ensures.1 h) ∙ c.if-not-holds.true)); no = λ _. (refl, refl) } }
+returns-then-not-holds c = record { yes = λ h. absurd (true≢false (sym (c.holds.ensures.1 h) ∙ c.if-not-holds.true)); no = λ _. (refl, refl) }

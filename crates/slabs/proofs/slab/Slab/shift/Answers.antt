@@ -1,56 +1,53 @@
-use Rattle.std.proofs.Common.{length, get_or, set, ap, ◌∙◌, arith}
+use Rattle.std.proofs.Common.{◌≡◌, ℕ, List, length, set, vec_items, sym, ap, subst, arith}
 use mathlib.Core.Logic.{∥∥₁_map}
+use Rattle.std.specs.Vec.{with_items}
 use lib.ListN.{length-map}
-use Rattle.std.proofs.lemmas.List.{get_or-set_same, set-set}
 use Rattle.slabs.specs.Rows.{rest}
-use Rattle.slabs.specs.Lists.{list_of, out_of}
-use Rattle.slabs.specs.Slabs.{rows_of, homes_of, Shifted}
-use Rattle.slabs.proofs.Sounds.{some_lists, row_within, class_few, room_left, sound_shift}
+use Rattle.slabs.specs.Lists.{Family, list_of, shift}
+use Rattle.slabs.specs.Orders.{InOrder}
+use Rattle.slabs.specs.Slabs.{layout}
+use Rattle.slabs.proofs.Cuts.{cut_same}
+use Rattle.slabs.proofs.Lending.{lists_back, homes_back, rests_back}
+use Rattle.slabs.proofs.Sounds.{some_lists, room_left, order_shift}
 use Rattle.slabs.proofs.slab.Slab.shift.Goals as goal
 
-pub leave-requires : goal.leave-requires
-leave-requires c =
-    let s = c.args.self.now in
-    record {
-      class = class_few s c.requires.sound c.args.i c.args.class c.args.from c.requires.home;
-      within = row_within s c.requires.sound c.args.i c.args.class c.args.from c.requires.home;
-      lists = some_lists s c.requires.sound;
-      home = c.requires.home;
-    }
+pub shift-requires-clause-room : goal.shift-requires-clause-room
+shift-requires-clause-room c = room_left c.args.self.now c.args.i c.args.class c.args.from c.requires.home c.args.to
 
-pub enter-requires : goal.enter-requires
-enter-requires c =
-    let s = c.args.self.now in
-    let m = c.leave.new.self in
-    let i = c.args.i in
-    let told = c.leave.ensures in
-    let within = row_within s c.requires.sound i c.args.class c.args.from c.requires.home in
-    let even = ap length told.rests in
-    record {
-      class = class_few s c.requires.sound i c.args.class c.args.from c.requires.home;
-      within = omega (arith, length-map (rows_of m) rest, length-map (rows_of s) rest);
-      room = room_left s c.requires.sound i c.args.class c.args.from c.requires.home m told.lists c.args.to;
-      lists = ∥∥₁_map (some_lists s c.requires.sound) (λ t. (out_of i (list_of c.args.from c.args.class) t.0, told.lists t.0 t.1));
-      home = ap (λ hs. get_or hs i 0) told.homes ∙ get_or-set_same (homes_of s) i 0 0 (omega (arith, length-map (rows_of s) (λ row. row.home)));
-    }
+pub shift-requires-clause-lists : goal.shift-requires-clause-lists
+shift-requires-clause-lists c = subst (λ rows. ∥ ((ls : ℕ → List ℕ) × Family c.args.self.now.classes.all rows ls) ∥₁) (sym c.deref_mut.ensures.value) (some_lists c.args.self.now)
 
-pub returns : goal.returns
-returns c =
+pub invariant_of-self : goal.invariant_of-self
+invariant_of-self c =
     let s = c.args.self.now in
-    let t = c.enter.new.self in
     let i = c.args.i in
-    let out = c.leave.ensures in
-    let in' = c.enter.ensures in
     let h = list_of c.args.to c.args.class in
-    let shifted : Shifted s t i (list_of c.args.from c.args.class) h =
+    let lent = c.deref_mut.result.now in
+    let ws = c.shift.new.rows in
+    let is = c.deref_mut.ensures.value in
+    let told = c.shift.ensures in
+    let long : length ws ≡ s.rows.len = omega (arith, ap length told.rests, length-map ws rest, length-map lent rest, c.deref_mut.ensures.len) in
+    let rows = vec_items (with_items s.rows ws) in
     record {
-      lists = λ ls f. in'.lists (out_of i (list_of c.args.from c.args.class) ls) (out.lists ls f);
-      homes = in'.homes ∙ ap (λ hs. set hs i h) out.homes ∙ set-set (homes_of s) i 0 h;
-      layout = in'.layout ∙ out.layout;
-    } in
-    let same = in'.rests ∙ out.rests in
+      ok = subst (λ l. ∥ InOrder c.shift.new.self.all rows l ∥₁) (sym (cut_same s.classes.all c.shift.new.self.all s.owners s.given s.pages told.frames))
+          (∥∥₁_map s.ok (λ z. order_shift s.classes.all c.shift.new.self.all (vec_items s.rows) rows (layout s) z i c.args.class c.args.from c.args.to c.requires.home c.requires.fits
+          (lists_back s.rows lent ws is long s.classes.all c.shift.new.self.all (shift i (list_of c.args.from c.args.class) h) told.lists)
+          (homes_back s.rows lent ws is long (λ hs. set hs i h) told.homes)
+          (rests_back s.rows lent ws is long told.rests)));
+    }
+
+pub returns-clause-shifted : goal.returns-clause-shifted
+returns-clause-shifted c =
+    let s = c.args.self.now in
+    let i = c.args.i in
+    let h = list_of c.args.to c.args.class in
+    let lent = c.deref_mut.result.now in
+    let ws = c.shift.new.rows in
+    let is = c.deref_mut.ensures.value in
+    let told = c.shift.ensures in
+    let long : length ws ≡ s.rows.len = omega (arith, ap length told.rests, length-map ws rest, length-map lent rest, c.deref_mut.ensures.len) in
     record {
-      sound = ∥∥₁_map c.requires.sound (sound_shift s t i c.args.class c.args.from c.args.to c.requires.home c.requires.fits shifted same);
-      shifted = shifted;
-      rests = same;
+      lists = lists_back s.rows lent ws is long s.classes.all c.shift.new.self.all (shift i (list_of c.args.from c.args.class) h) told.lists;
+      homes = homes_back s.rows lent ws is long (λ hs. set hs i h) told.homes;
+      layout = cut_same s.classes.all c.shift.new.self.all s.owners s.given s.pages told.frames;
     }

@@ -5,9 +5,9 @@ use Rattle.slabs.proofs.Ends.{no_size_past, class_within}
 use Rattle.slabs.proofs.slab.Slab.size.Goals as goal
 
 pub returns-then-class-ge-CLASSES : goal.returns-then-class-ge-CLASSES
-returns-then-class-ge-CLASSES c = sym (no_size_past c.args.self.now c.requires c.args.class (omega arith))
+returns-then-class-ge-CLASSES c = sym (no_size_past c.args.self.now c.args.class (omega arith))
 
 pub returns-else-class-ge-CLASSES : goal.returns-else-class-ge-CLASSES
 returns-else-class-ge-CLASSES c =
     let s = c.args.self.now in
-    sym (get_or-map (λ x. x.size) s.classes c.args.class no_class 0 (class_within s c.requires c.args.class c.if-class-ge-CLASSES.false))
+    sym (get_or-map (λ x. x.size) s.classes.all c.args.class no_class 0 (class_within s c.args.class c.if-class-ge-CLASSES.false))

@@ -7,7 +7,7 @@ use Rattle.slabs.proofs.Answering.{answered, unanswered}
 use Rattle.slabs.proofs.slab.Slab.tag_if_held.Goals as goal
 
 pub tag-requires : goal.tag-requires
-tag-requires c = record { sound = c.requires; held = c.holds.ensures.0 c.if-not-holds.false }
+tag-requires c = c.holds.ensures.0 c.if-not-holds.false
 
 pub returns : goal.returns
 returns c = answered c.args.self.now c.args.i (c.holds.ensures.0 c.if-not-holds.false) c.tag.result (λ tag. (d : Tag) → tag ≡ get_or (tags (rows_of c.args.self.now)) c.args.i d) c.tag.ensures

@@ -13,11 +13,11 @@ returns-then-class-ge-CLASSES c =
     let class = c.args.class in
     let far : 33 ≤ class = omega arith in
     record {
-      pages = sym (no_share_past s c.requires class far);
+      pages = sym (no_share_past s class far);
       counts = λ ls f. (
-        sym (ap length (beyond s c.requires ls f Free class far)),
-        sym (ap length (beyond s c.requires ls f Granted class far)),
-        sym (ap length (beyond s c.requires ls f Held class far)),
+        sym (ap length (beyond s ls f Free class far)),
+        sym (ap length (beyond s ls f Granted class far)),
+        sym (ap length (beyond s ls f Held class far)),
       );
       whole = sym (zero-mul (get_or (layout s).chunks class 0));
     }
@@ -27,7 +27,7 @@ returns c =
     let s = c.args.self.now in
     let class = c.args.class in
     let few = c.if-class-ge-CLASSES.false in
-    let share = get_or-map (λ x. x.pages) s.classes class no_class 0 (class_within s c.requires class few) in
+    let share = get_or-map (λ x. x.pages) s.classes.all class no_class 0 (class_within s class few) in
     let a = c.count.ensures in
     let b = c.count-2.ensures in
     let d = c.count-3.ensures in
@@ -35,5 +35,5 @@ returns c =
     record {
       pages = sym share;
       counts = λ ls f. (a ∙ f.counted class Free few, b ∙ f.counted class Granted few, d ∙ f.counted class Held few);
-      whole = omega (arith, counts_whole s c.requires class few);
+      whole = omega (arith, counts_whole s class few);
     }

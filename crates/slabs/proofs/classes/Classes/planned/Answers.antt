@@ -2,11 +2,11 @@ use Rattle.std.proofs.Common.{sym, ◌∙◌, subst, arith, length-set, below_mo
 use Rattle.std.proofs.lemmas.List.{get_or-set_same, get_or-set_other}
 use Rattle.plan.specs.Plans.{plan_sizes}
 use Rattle.slabs.specs.Classes.{no_class, Fresh}
-use Rattle.slabs.proofs.slab.opening.cut_classes.Goals as goal
+use Rattle.slabs.proofs.classes.Classes.planned.Goals as goal
 
 pub loop-class-preserved : goal.loop-class-preserved
 loop-class-preserved c =
-    let classes = c.loop-class.classes in
+    let classes = c.loop-class.all in
     let i = c.loop-class.class in
     let sizes = plan_sizes c.args.plan.now in
     let inv = c.loop-class.invariant in (

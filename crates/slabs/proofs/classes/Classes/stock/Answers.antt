@@ -4,16 +4,14 @@ use mathlib.Core.Logic.{∥∥₁_elim, ∥∥₁_map}
 use lib.ListN.{length-map}
 use Rattle.std.proofs.lemmas.Bool.{eq-eqb}
 use Rattle.slabs.specs.declared.class.Stand.TheVariants.{Free}
-use Rattle.slabs.specs.Rows.{rest}
+use Rattle.slabs.specs.Rows.{homes, rest}
 use Rattle.slabs.specs.Lists.{free_of, stocked}
-use Rattle.slabs.specs.Slabs.{rows_of, homes_of}
 use Rattle.slabs.proofs.Stocking.{Stocked, filled_above, stocked_long}
-use Rattle.slabs.proofs.slab.Slab.stock.Goals as goal
+use Rattle.slabs.proofs.classes.Classes.stock.Goals as goal
 
 pub enter-requires : goal.enter-requires
 enter-requires c =
-    let s = c.args.self.now in
-    let m = c.loop-place.self in
+    let rows = c.args.rows.now in
     let first = c.args.first in
     let n = c.loop-place.place in
     let class = c.args.class in
@@ -22,7 +20,7 @@ enter-requires c =
     let even = ap length inv.same_rests in
     record {
       class = c.requires.class;
-      within = omega (arith, length-map (rows_of m) rest, length-map (rows_of s) rest, c.requires.within);
+      within = omega (arith, length-map c.loop-place.rows rest, length-map rows rest, c.requires.within);
       room = ∥∥₁_elim c.requires.lists le_prop (λ t.
           let now_is = (inv.lists t.0 t.1).counted class Free c.requires.class in
           let was = t.1.counted class Free c.requires.class in
@@ -30,22 +28,20 @@ enter-requires c =
           let all = ap (λ b. cond b n 0) (eq-eqb h h refl) in
           omega (arith, c.requires.room));
       lists = ∥∥₁_map c.requires.lists (λ t. (stocked first n h t.0, inv.lists t.0 t.1));
-      home = ap (λ hs. get_or hs (first + n) 0) inv.homes ∙ filled_above first n h (homes_of s) (first + n) (omega arith) ∙ c.requires.homeless n (omega arith);
+      home = ap (λ hs. get_or hs (first + n) 0) inv.homes ∙ filled_above first n h (homes rows) (first + n) (omega arith) ∙ c.requires.homeless n (omega arith);
     }
 
 pub loop-place-preserved : goal.loop-place-preserved
 loop-place-preserved c =
-    let s = c.args.self.now in
-    let t = c.enter.new.self in
     let first = c.args.first in
     let n = c.loop-place.place in
     let h = free_of c.args.class in
     let inv = c.loop-place.invariant in
     let told = c.enter.ensures in
-    subst (λ k. Stocked s t first k h) (sym (add-one n))
+    subst (λ k. Stocked c.args.self.now.all c.enter.new.self.all c.args.rows.now c.enter.new.rows first k h) (sym (add-one n))
     (record {
       lists = λ ls f. told.lists (stocked first n h ls) (inv.lists ls f);
       homes = told.homes ∙ ap (λ hs. set hs (first + n) h) inv.homes;
       same_rests = told.rests ∙ inv.same_rests;
-      same_layout = told.layout ∙ inv.same_layout;
+      same_frames = told.frames ∙ inv.same_frames;
     })

@@ -1,6 +1,0 @@
-use Rattle.slabs.specs.Lists.{free_of}
-use Rattle.slabs.proofs.Stocking.{Stocked}
-use Rattle.slabs.proofs.slab.Slab.stock.Given as goal
-
-abbrev pub invariant-loop-place : goal.invariant-loop-place
-invariant-loop-place l = Stocked l.initial.self l.self l.first l.place (free_of l.class)
