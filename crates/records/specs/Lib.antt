@@ -1,4 +1,4 @@
-pub mod Order
+pub mod Indexes
 pub mod Reading
 pub mod Standing
 pub mod Showing

@@ -1,7 +1,8 @@
 //! The records with the memory that holds them, but for page memory, which is lent to each call that reads or writes bytes.
 
 ghost use Rattle.std.specs.Prelude.{vec_items};
-ghost use Rattle.records.specs.Order.{InOrder};
+ghost use Rattle.slabs.specs.Slabs.{rows_of, layout};
+ghost use Rattle.records.specs.Indexes.{Indexes};
 
 mod finding;
 mod granting;
@@ -21,5 +22,5 @@ pub struct Records {
     slab: Slab,
     table: Chains,
     heads: Vec<u32>,
-    ghost standing: { ∥ InOrder slab table (vec_items heads) ∥₁ },
+    ghost indexed: { ∥ Indexes (rows_of slab) (layout slab) table (vec_items heads) ∥₁ },
 }

@@ -15,7 +15,7 @@ ghost use Rattle.records.specs.Reading.{record_at};
 ghost use Rattle.records.specs.Showing.{ShowsRecords};
 
 use super::Records;
-use crate::dead::Dead;
+use crate::dead::is_dead;
 use slabs::Tag;
 
 impl Records {
@@ -73,8 +73,8 @@ impl Records {
         ensures held { IfSome result (λ i. Holds self.now.slab i) }
         ensures shown { (setup : Setup) (memory : List ℕ) (ks : List Class) → ShowsRecords setup self.now.slab memory ks → Numbered setup class → last (dead second) (class_at class ks).records ≡ option_map (λ i. record_at (layout self.now.slab) (rows_of self.now.slab) memory i) result }
     {
-        let dead = Dead { second };
-        self.slab.rearmost_that(class, &dead)
+        self.slab
+            .rearmost_that(class, |row| is_dead(row.tag.expiry, second))
     }
 
     /// How many pages there are.

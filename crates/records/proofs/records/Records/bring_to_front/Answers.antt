@@ -1,5 +1,4 @@
 use Rattle.std.proofs.Common.{◌≡◌, ◌<◌, length, get_or, sym, ap, ◌∙◌, subst, arith}
-use mathlib.Core.Logic.{∥∥₁_map, ∥∥₁_elim, ∥∥₁_prop}
 use lib.ListN.{length-map}
 use Rattle.slabs.specs.Rows.{blank}
 use Rattle.slabs.specs.Lists.{held_of, to_front}
@@ -7,12 +6,9 @@ use Rattle.slabs.specs.Layouts.{class_at}
 use Rattle.slabs.specs.Slabs.{Reordered, rows_of, homes_of, layout}
 use Rattle.slabs.specs.Records.{Retagged, tags}
 use Rattle.records.proofs.Chaining.{within}
-use Rattle.records.proofs.Indexing.{sound_of, reindexed}
+use Rattle.records.proofs.Indexing.{reindexed}
 use Rattle.records.proofs.Telling.{at_second, at_column, shows_fronted}
 use Rattle.records.proofs.records.Records.bring_to_front.Goals as goal
-
-pub tag-tag-requires : goal.tag-tag-requires
-tag-tag-requires c = record { sound = sound_of c.args.self.now; held = c.requires.held }
 
 pub retag-requires : goal.retag-requires
 retag-requires c =
@@ -25,19 +21,12 @@ retag-requires c =
 pub move_to_front-requires : goal.move_to_front-requires
 move_to_front-requires c =
     let told = c.retag.ensures.retagged in
-    record {
-      sound = sound_of c.retag.new.self;
-      held = ap (λ h. get_or h c.args.i 0) told.homes_stay ∙ c.requires.held ∙ ap (λ l. held_of (class_at l c.args.i)) (sym told.layout_stays);
-    }
+    ap (λ h. get_or h c.args.i 0) told.homes_stay ∙ c.requires.held ∙ ap (λ l. held_of (class_at l c.args.i)) (sym told.layout_stays)
 
 pub invariant_of-self : goal.invariant_of-self
 invariant_of-self c =
-    let u = c.retag.new.self in
-    let went = c.move_to_front.ensures.moved in
-    record {
-      standing = ∥∥₁_elim c.move_to_front.ensures.sound ∥∥₁_prop (λ sound.
-          ∥∥₁_map u.standing (λ st. record { sound = sound; indexed = reindexed u c.move_to_front.new.self went.rests went.homes went.layout st.indexed }));
-    }
+    let went = c.move_to_front.ensures in
+    record { indexed = reindexed c.retag.new.self c.move_to_front.new.self went.rests went.homes went.layout }
 
 pub returns : goal.returns
 returns c =
@@ -46,7 +35,7 @@ returns c =
     let u = c.retag.new.self in
     let new = c.move_to_front.new.self in
     let told = c.retag.ensures.retagged in
-    let went = c.move_to_front.ensures.moved in
+    let went = c.move_to_front.ensures in
     let tag_is : c.tag-tag.result ≡ get_or (tags (rows_of s)) i blank.tag = c.tag-tag.ensures blank.tag in
     let retagged : Retagged s u.slab i (at_second c.args.second (get_or (tags (rows_of s)) i blank.tag)) =
     subst (λ x. Retagged s u.slab i (at_second c.args.second x)) tag_is told in

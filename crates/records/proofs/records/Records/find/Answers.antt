@@ -2,20 +2,16 @@ use Rattle.std.proofs.Common.{vec_items, sym, subst}
 use mathlib.Core.Logic.{∥∥₁_map}
 use Rattle.chained.specs.Chains.{Keeps}
 use Rattle.records.proofs.Searching.{lent_search, searched_held, searched}
-use Rattle.records.proofs.Indexing.{sound_of}
 use Rattle.records.proofs.records.Records.find.Goals as goal
-
-pub invariant_of-pages : goal.invariant_of-pages
-invariant_of-pages c = record { sound = sound_of c.args.self.now }
 
 -- what the table keeps over slots and rows as they are lent
 pub find-requires : goal.find-requires
 find-requires c =
     let t = c.args.self.now in
-    ∥∥₁_map c.args.self.now.standing (λ s. (
-      s.indexed.ids,
-      subst (λ hs. Keeps (λ row. row.chain) (λ row. row.tag.hash) t.table hs c.deref-2.result.now s.indexed.ids) (sym c.deref.ensures.value)
-          (subst (λ rs. Keeps (λ row. row.chain) (λ row. row.tag.hash) t.table (vec_items t.heads) rs s.indexed.ids) (sym c.deref-2.ensures.value) s.indexed.kept),
+    ∥∥₁_map c.args.self.now.indexed (λ ix. (
+      ix.ids,
+      subst (λ hs. Keeps (λ row. row.chain) (λ row. row.tag.hash) t.table hs c.deref-2.result.now ix.ids) (sym c.deref.ensures.value)
+          (subst (λ rs. Keeps (λ row. row.chain) (λ row. row.tag.hash) t.table (vec_items t.heads) rs ix.ids) (sym c.deref-2.ensures.value) ix.kept),
     ))
 
 pub returns : goal.returns

@@ -1,15 +1,11 @@
 use Rattle.std.proofs.Common.{◌≡◌, ◌<◌, length, get_or, sym, refl, ap, ◌∙◌, ⊎_elim, arith}
-use mathlib.Core.Logic.{∥∥₁_map, ∥∥₁_elim, ∥∥₁_prop}
 use Rattle.std.proofs.lemmas.Bool.{cases_eq}
 use Rattle.slabs.specs.Lists.{free_of, granted_of}
 use Rattle.slabs.specs.Slabs.{homes_of}
 use Rattle.records.proofs.Chaining.{within}
 use Rattle.records.proofs.Granting.{free_not, granted_not, home_there, home_off, held_before, held_after, shows_shifted}
-use Rattle.records.proofs.Indexing.{sound_of, reindexed_by}
+use Rattle.records.proofs.Indexing.{reindexed_by}
 use Rattle.records.proofs.records.Records.give_back.Goals as goal
-
-pub give_back-requires : goal.give_back-requires
-give_back-requires c = record { sound = sound_of c.args.self.now; granted = c.requires.granted }
 
 pub invariant_of-self : goal.invariant_of-self
 invariant_of-self c =
@@ -20,9 +16,7 @@ invariant_of-self c =
     let lt : row < length (homes_of t.slab) = within (homes_of t.slab) row (rw c.requires.granted (omega arith)) in
     let before = held_before t.slab new row _ _ went c.requires.granted lt (granted_not c.args.grant.class) (free_not c.args.grant.class) in
     let after = held_after t.slab new row _ _ went c.requires.granted lt (granted_not c.args.grant.class) (free_not c.args.grant.class) in
-    record {
-      standing = ∥∥₁_elim c.give_back.ensures.sound ∥∥₁_prop (λ sound. ∥∥₁_map t.standing (λ st. record { sound = sound; indexed = reindexed_by t new c.give_back.ensures.rests before after st.indexed }));
-    }
+    record { indexed = reindexed_by t new c.give_back.ensures.rests before after }
 
 pub returns : goal.returns
 returns c =

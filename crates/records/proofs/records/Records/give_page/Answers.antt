@@ -1,15 +1,11 @@
 use Rattle.std.proofs.Common.{refl}
-use Rattle.records.proofs.Paging.{gave_standing, gave_pages, gave_same, gave_granted, gave_shown, gave_answer}
-use Rattle.records.proofs.Indexing.{sound_of}
+use Rattle.records.proofs.Paging.{gave_indexed, gave_pages, gave_same, gave_granted, gave_shown, gave_answer}
 use Rattle.records.proofs.records.Records.give_page.Goals as goal
-
-pub give_page-requires : goal.give_page-requires
-give_page-requires c = sound_of c.args.self.now
 
 pub invariant_of-self : goal.invariant_of-self
 invariant_of-self c =
     let gave = c.give_page.ensures in
-    record { standing = gave_standing c.args.self.now c.give_page.new.self c.args.class gave.rests c.give_page.result gave.answer gave.given gave.sound }
+    record { indexed = gave_indexed c.args.self.now c.give_page.new.self c.args.class gave.rests c.give_page.result gave.answer gave.given }
 
 pub returns : goal.returns
 returns c =

@@ -1,5 +1,5 @@
 use Rattle.std.proofs.Common.{◌≡◌, ◌∷◌, map, length, vec_items, refl, ap, ◌∙◌, subst, arith, Vec, Global}
-use mathlib.Core.Logic.{∥∥₁_map, ∥∥₁_elim, ∥∥₁_prop}
+use mathlib.Core.Logic.{∥∥₁_map}
 use lib.ListN.{length-map}
 use Rattle.std.specs.Vec.{with_items}
 use Rattle.std.proofs.lemmas.List.{with_items_is}
@@ -8,16 +8,12 @@ use Rattle.chained.specs.Chains.{Keeps, size}
 use Rattle.chained.proofs.Sound.{holds_as}
 use Rattle.slabs.specs.declared.row.Row.{Row}
 use Rattle.slabs.specs.declared.slab.Slab.{Slab}
-use Rattle.slabs.specs.Slabs.{rows_of}
+use Rattle.slabs.specs.Slabs.{InOrder, layout, rows_of}
 use Rattle.records.specs.Standing.{Indexed}
-use Rattle.records.proofs.Chaining.{unchained, sound_chained}
+use Rattle.records.proofs.Chaining.{unchained, order_same}
 use Rattle.records.proofs.Linking.{row_still, outside, still_kept, put_exact, put_granted, put_spent, put_shown}
-use Rattle.records.proofs.Indexing.{sound_of}
 use Rattle.records.proofs.records.Records.put.Goals as goal
 use Rattle.records.proofs.records.Records.put.Goals.{After-insert}
-
-pub link-row-requires : goal.link-row-requires
-link-row-requires c = record { sound = sound_of c.args.self.now; granted = c.requires.granted; fits = c.requires.fits; memory = c.requires.memory }
 
 pub insert-requires : goal.insert-requires
 insert-requires c =
@@ -30,11 +26,11 @@ insert-requires c =
     let rows_are = c.deref_mut-2.ensures.value in
     record {
       within = omega (arith, row_is, ap length rows_are, row_still t grant.row grant.class c.requires.granted u made.linked _ _ c.args.tag made.described);
-      outside = ∥∥₁_map c.args.self.now.standing (λ s. (
-        s.indexed.ids,
-        holds_as (size t.table) s.indexed.ids heads_are (ap (map (λ row. row.chain)) rows_are) (ap (map (λ row. row.tag.hash)) rows_are)
-            (still_kept t grant.row grant.class c.requires.granted u made.linked _ _ c.args.tag made.described s.indexed),
-        ap (λ n. count n s.indexed.ids) (row_is) ∙ outside t grant.row grant.class c.requires.granted u made.linked _ _ c.args.tag made.described s.indexed,
+      outside = ∥∥₁_map t.indexed (λ ix. (
+        ix.ids,
+        holds_as (size t.table) ix.ids heads_are (ap (map (λ row. row.chain)) rows_are) (ap (map (λ row. row.tag.hash)) rows_are)
+            (still_kept t grant.row grant.class c.requires.granted u made.linked _ _ c.args.tag made.described ix),
+        ap (λ n. count n ix.ids) (row_is) ∙ outside t grant.row grant.class c.requires.granted u made.linked _ _ c.args.tag made.described ix,
       ));
     }
 
@@ -54,9 +50,18 @@ module _ (c : After-insert) where
   stays : map unchained (vec_items rows) ≡ map unchained (rows_of linked)
   stays = ap (map unchained) rows_out ∙ c.insert.ensures.rest ∙ ap (map unchained) c.deref_mut-2.ensures.value
 
+  in_order : ∥ InOrder linked.classes.all (vec_items rows) (layout linked) ∥₁
+  in_order = ∥∥₁_map linked.ok (order_same (rows_of linked) (vec_items rows) stays linked.classes.all (layout linked))
+
+  abbrev chained : Slab
+  chained = record { rows = rows; classes = linked.classes; owners = linked.owners; given = linked.given; pages = linked.pages; ok = in_order }
+
 pub invariant_of-self : goal.invariant_of-self
-invariant_of-self c =
-    let a = (goal.at.invariant_of-self c).After-insert in
+invariant_of-self c = (in_order (goal.at.invariant_of-self c).After-insert, tt)
+
+pub invariant_of-self-2 : goal.invariant_of-self-2
+invariant_of-self-2 c =
+    let a = (goal.at.invariant_of-self-2 c).After-insert in
     let t = c.args.self.now in
     let grant = c.args.grant in
     let u = c.link-row.new.self in
@@ -75,14 +80,11 @@ invariant_of-self c =
     (still_kept t grant.row grant.class c.requires.granted u made.linked _ _ c.args.tag made.described ix))
     (ap (λ n. count n ix.ids) row_is ∙ outside t grant.row grant.class c.requires.granted u made.linked _ _ c.args.tag made.described ix)) in
     record {
-      standing = ∥∥₁_elim made.sound ∥∥₁_prop (λ z. ∥∥₁_map t.standing (λ st. record {
-        sound = sound_chained u (rows a) (stays a) z;
-        indexed = record {
-          ids = grant.row ∷ st.indexed.ids;
-          kept = holds_as (size t.table) (grant.row ∷ st.indexed.ids) (with_items_is t.heads hs heads_long) (ap (map (λ row. row.chain)) out) (ap (map (λ row. row.tag.hash)) out) (kept st.indexed);
-          exact = put_exact t grant.row grant.class c.requires.granted u made.linked _ _ c.args.tag made.described (rows a) (stays a) st.indexed;
-        };
-      }));
+      indexed = ∥∥₁_map t.indexed (λ ix. record {
+        ids = grant.row ∷ ix.ids;
+        kept = holds_as (size t.table) (grant.row ∷ ix.ids) (with_items_is t.heads hs heads_long) (ap (map (λ row. row.chain)) out) (ap (map (λ row. row.tag.hash)) out) (kept ix);
+        exact = put_exact t grant.row grant.class c.requires.granted u made.linked _ _ c.args.tag made.described (chained a) (stays a) refl refl ix;
+      });
     }
 
 pub returns : goal.returns
@@ -97,9 +99,9 @@ returns c =
         layout = made.linked.layout;
         table = refl;
         slots = refl;
-        granted = put_granted t grant.row grant.class c.requires.granted u made.linked _ _ c.args.tag made.described (rows a) (stays a);
+        granted = put_granted t grant.row grant.class c.requires.granted u made.linked _ _ c.args.tag made.described (chained a) (stays a) refl refl;
       };
-      spent = put_spent t grant.row grant.class c.requires.granted u made.linked _ _ c.args.tag made.described (rows a) (stays a);
+      spent = put_spent t grant.row grant.class c.requires.granted u made.linked _ _ c.args.tag made.described (chained a) (stays a) refl refl;
       shown = λ setup ks sh num hash home free.
-          put_shown t grant.row grant.class c.requires.granted u made.linked _ _ c.args.tag made.described (rows a) (stays a) setup c.args.memory.now c.link-row.new.memory ks sh num c.args.key.now c.args.data.now made.told.0 made.told.1 made.others home hash free;
+          put_shown t grant.row grant.class c.requires.granted u made.linked _ _ c.args.tag made.described _ (stays a) refl refl setup c.args.memory.now c.link-row.new.memory ks sh num c.args.key.now c.args.data.now made.told.0 made.told.1 made.others home hash free;
     }

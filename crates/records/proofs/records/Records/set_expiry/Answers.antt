@@ -9,11 +9,7 @@ use Rattle.model.specs.Records.{expiring}
 use Rattle.slabs.specs.Slabs.{layout}
 use Rattle.records.proofs.Chaining.{within}
 use Rattle.records.proofs.Telling.{until, at_column, by_columns, retagged_here, shows_expiry}
-use Rattle.records.proofs.Indexing.{sound_of}
 use Rattle.records.proofs.records.Records.set_expiry.Goals as goal
-
-pub tag-tag-requires : goal.tag-tag-requires
-tag-tag-requires c = record { sound = sound_of c.args.self.now; held = c.requires.held }
 
 pub retag-requires : goal.retag-requires
 retag-requires c =

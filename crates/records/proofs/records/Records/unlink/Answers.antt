@@ -1,5 +1,5 @@
 use Rattle.std.proofs.Common.{◌≡◌, ℕ, ◌<◌, cond, eqb, List, map, length, get_or, set, vec_items, sym, refl, ap, ◌∙◌, subst, ⊎_elim, arith, Vec, Global}
-use mathlib.Core.Logic.{∥∥₁_map, ∥∥₁_elim, ∥∥₁_prop}
+use mathlib.Core.Logic.{∥∥₁_map}
 use lib.ListN.{length-map}
 use Rattle.std.specs.Vec.{with_items}
 use Rattle.std.proofs.lemmas.List.{with_items_is, get_or-set_same, get_or-set_other}
@@ -9,15 +9,14 @@ use Rattle.recency.proofs.Counts.{count_without}
 use Rattle.recency.proofs.Columns.{column_of_rest}
 use Rattle.chained.specs.Chains.{Keeps, Holds, size}
 use Rattle.slabs.specs.declared.row.Row.{Row}
-use Rattle.slabs.specs.declared.slab.Slab.{Slab}
 use Rattle.slabs.specs.Rows.{homes, rest, rests}
 use Rattle.slabs.specs.Lists.{held_of, free_of}
 use Rattle.slabs.specs.Layouts.{class_at}
 use Rattle.slabs.specs.Slabs.{rows_of, homes_of, layout}
 use Rattle.records.specs.declared.records.Records.{Records}
-use Rattle.records.specs.Order.{Indexes}
+use Rattle.records.specs.Indexes.{Indexes}
 use Rattle.records.specs.Standing.{Indexed}
-use Rattle.records.proofs.Chaining.{unchained, within, with_rows, sound_chained, homes_same, lists_same}
+use Rattle.records.proofs.Chaining.{unchained, within, homes_same, family_same, order_same}
 use Rattle.records.proofs.Turns.{told}
 use Rattle.records.proofs.Leaving.{shows_left}
 use Rattle.records.proofs.records.Records.unlink.Goals as goal
@@ -35,11 +34,11 @@ remove-requires c =
     let lt : c.args.i < length (homes_of t.slab) = within (homes_of t.slab) c.args.i (rw c.requires.held (omega arith)) in
     record {
       within = omega (arith, lt, length-map (rows_of t.slab) (λ row. row.home), ap length rows_are);
-      inside = ∥∥₁_map c.args.self.now.standing (λ s. (
-        s.indexed.ids,
-        subst (λ hs. Keeps (λ row. row.chain) (λ row. row.tag.hash) t.table hs c.deref_mut-2.result.now s.indexed.ids) (sym heads_are)
-            (subst (λ rs. Keeps (λ row. row.chain) (λ row. row.tag.hash) t.table (vec_items t.heads) rs s.indexed.ids) (sym rows_are) s.indexed.kept),
-        once (homes_of t.slab) c.args.i (class_at (layout t.slab) c.args.i) (count c.args.i s.indexed.ids) (s.indexed.exact c.args.i) c.requires.held,
+      inside = ∥∥₁_map t.indexed (λ ix. (
+        ix.ids,
+        subst (λ hs. Keeps (λ row. row.chain) (λ row. row.tag.hash) t.table hs c.deref_mut-2.result.now ix.ids) (sym heads_are)
+            (subst (λ rs. Keeps (λ row. row.chain) (λ row. row.tag.hash) t.table (vec_items t.heads) rs ix.ids) (sym rows_are) ix.kept),
+        once (homes_of t.slab) c.args.i (class_at (layout t.slab) c.args.i) (count c.args.i ix.ids) (ix.exact c.args.i) c.requires.held,
       ));
     }
 
@@ -49,9 +48,6 @@ module _ (c : After-remove) where
 
   abbrev rows : Vec Row Global
   rows = with_items old.slab.rows c.remove.new.rows
-
-  abbrev unchained_slab : Slab
-  unchained_slab = with_rows old.slab rows
 
   rows_out : vec_items rows ≡ c.remove.new.rows
   rows_out =
@@ -65,16 +61,18 @@ module _ (c : After-remove) where
   there : c.args.i < length (homes_of old.slab)
   there = within (homes_of old.slab) c.args.i (rw c.requires.held (omega arith))
 
-  homes_are : homes_of unchained_slab ≡ homes_of old.slab
-  homes_are = homes_same old.slab unchained_slab stays refl
+  homes_are : homes (vec_items rows) ≡ homes_of old.slab
+  homes_are = homes_same (rows_of old.slab) (vec_items rows) stays
+
+pub invariant_of-self : goal.invariant_of-self
+invariant_of-self c =
+    let a = (goal.at.invariant_of-self c).After-remove in
+    let slab = c.args.self.now.slab in
+    (∥∥₁_map slab.ok (order_same (rows_of slab) (vec_items (rows a)) (stays a) slab.classes.all (layout slab)), tt)
 
 pub remove-requires-2 : goal.remove-requires-2
 remove-requires-2 c =
-    let a = (goal.at.remove-requires-2 c).After-remove in
-    record {
-      sound = ∥∥₁_map c.args.self.now.standing (λ s. sound_chained c.args.self.now.slab (rows a) (stays a) s.sound);
-      held = ap (λ h. get_or h c.args.i 0) (homes_are a) ∙ c.requires.held;
-    }
+    ap (λ h. get_or h c.args.i 0) (homes_are (goal.at.remove-requires-2 c).After-remove) ∙ c.requires.held
 
 -- the table's rows without one that became free
 exact_after : (homes homes' ids : List ℕ) (i c : ℕ) (owner : ℕ → ℕ) → owner i ≡ c → i < length homes → homes' ≡ set homes i (free_of c) → ((k : ℕ) → count k ids ≡ cond (eqb (get_or homes k 0) (held_of (owner k))) 1 0) → (k : ℕ) → count k (without i ids) ≡ cond (eqb (get_or homes' k 0) (held_of (owner k))) 1 0
@@ -90,9 +88,9 @@ exact_after homes homes' ids i c owner own lt is exact k =
     ∙ ap (λ h. cond (eqb h (held_of (owner k))) 1 0) (sym (ap (λ h. get_or h k 0) is ∙ get_or-set_other homes i k (free_of c) 0 ne)))
     (cases_eq k i)
 
-pub invariant_of-self : goal.invariant_of-self
-invariant_of-self c =
-    let a = (goal.at.invariant_of-self c).After-remove in
+pub invariant_of-self-2 : goal.invariant_of-self-2
+invariant_of-self-2 c =
+    let a = (goal.at.invariant_of-self-2 c).After-remove in
     let t = c.args.self.now in
     let i = c.args.i in
     let gone = c.remove-2.ensures in
@@ -106,7 +104,7 @@ invariant_of-self c =
     let hashes : map (λ row. row.tag.hash) (rows_of new) ≡ map (λ row. row.tag.hash) ws = column_of_rest rest (λ row. row.tag.hash) (λ _. refl) ws (rows_of new) rests_are in
     let class = class_at (layout t.slab) i in
     let heads_long : length hs ≡ t.heads.len = omega (arith, c.remove.auto.heads, c.deref_mut.ensures.len) in
-    let indexed : Indexed t → Indexes new t.table (vec_items (with_items t.heads hs)) = λ ix.
+    let indexed : Indexed t → Indexes (rows_of new) (layout new) t.table (vec_items (with_items t.heads hs)) = λ ix.
     let kept = c.remove.ensures.held ix.ids
     (subst (λ hs. Keeps (λ row. row.chain) (λ row. row.tag.hash) t.table hs c.deref_mut-2.result.now ix.ids) (sym c.deref_mut.ensures.value)
     (subst (λ rs. Keeps (λ row. row.chain) (λ row. row.tag.hash) t.table (vec_items t.heads) rs ix.ids) (sym rows_are) ix.kept))
@@ -120,7 +118,7 @@ invariant_of-self c =
           exact_after (homes_of t.slab) (homes_of new) ix.ids i class (class_at (layout t.slab)) refl (there a) (removed.homes ∙ ap (λ h. set h i (free_of class)) (homes_are a)) ix.exact k
           ∙ ap (λ l. cond (eqb (get_or (homes_of new) k 0) (held_of (class_at l k))) 1 0) (sym removed.layout);
     } in
-    record { standing = ∥∥₁_elim gone.sound ∥∥₁_prop (λ sound. ∥∥₁_map t.standing (λ s. record { sound = sound; indexed = indexed s.indexed })) }
+    record { indexed = ∥∥₁_map t.indexed indexed }
 
 pub returns : goal.returns
 returns c =
@@ -132,7 +130,7 @@ returns c =
     let new = c.remove-2.new.self in
     let class = class_at (layout s) i in
     let tells : map told (rows_of new) ≡ map told (rows_of s) =
-    column_of_rest rest told (λ _. refl) (rows_of (unchained_slab a)) (rows_of new) gone.rests ∙ column_of_rest unchained told (λ _. refl) (rows_of s) (rows_of (unchained_slab a)) (stays a) in
+    column_of_rest rest told (λ _. refl) (vec_items (rows a)) (rows_of new) gone.rests ∙ column_of_rest unchained told (λ _. refl) (rows_of s) (vec_items (rows a)) (stays a) in
     let homes_new = removed.homes ∙ ap (λ h. set h i (free_of class)) (homes_are a) in
     record {
       kept = record {
@@ -150,5 +148,5 @@ returns c =
           ap (λ x. get_or x k 0) homes_new ∙ get_or-set_other (homes_of s) i k (free_of class) 0 (λ e. omega (arith, h, c.requires.held, ap (λ n. get_or (homes_of s) n 0) e)) ∙ h;
       shown = λ setup memory ks sh.
           shows_left setup s memory ks sh i c.requires.held new homes_new removed.layout (there a)
-          (removed.lists sh.lists (lists_same s (unchained_slab a) (stays a) refl sh.lists sh.listed)) tells;
+          (removed.lists sh.lists (family_same (rows_of s) (vec_items (rows a)) (stays a) s.classes.all sh.lists sh.listed)) tells;
     }
