@@ -1,121 +1,131 @@
 //! Records put into a slab, with a simple copy of each kept beside it.
 
-ghost use Rattle.std.specs.Prelude.{length};
-ghost use Rattle.slab_demo.specs.Ready.{Ready};
+ghost use Rattle.std.specs.Prelude.{◌*◌, ◌≤◌, vec_len};
 
-use slabs::{Slab, Tag};
+use plan::Plan;
+use slabs::{Row, Slab, Tag, Tally};
 use std::alloc::AllocError;
 
-/// A copy of a record's bytes, and the row that the slab put it in.
+/// The bytes of a page.
+const PAGE: usize = 4096;
+
+/// A key and its data.
+#[derive(Clone, Copy)]
+struct Sample {
+    key: [u8; 3],
+    block: [u8; 100],
+}
+
+impl Sample {
+    // The n-th sample: no two have the same key or data.
+    fn numbered(n: u8) -> Sample {
+        Sample {
+            key: [b'k', b'0' + n % 100 / 10, b'0' + n % 10],
+            block: [n; 100],
+        }
+    }
+}
+
+/// A copy of a record, and the row that the slab put it in.
 #[derive(Clone, Copy)]
 pub struct Kept {
-    pub row: u32,
-    pub key: [u8; 3],
-    pub block: [u8; 100],
+    row: u32,
+    sample: Sample,
 }
 
-/// The n-th record: no two have the same key or data.
-pub fn record(n: u8) -> Kept {
-    Kept {
-        row: 0,
-        key: [b'k', b'0' + n % 100 / 10, b'0' + n % 10],
-        block: [n; 100],
-    }
+/// A slab, its page memory with a page for each of its pages, and a copy of each record in it.
+#[derive(Drop)]
+pub struct Desk {
+    slab: Slab,
+    memory: Vec<u8>,
+    copies: Vec<Kept>,
+    ghost wide: { 4096 * slab.pages ≤ vec_len memory },
 }
 
-// Puts a record into a class, if that has a free chunk of its size, and gives its row.
-fn store(slab: &mut Slab, memory: &mut [u8], class: usize, key: &[u8], block: &[u8]) -> Option<u32>
-    requires { Ready slab.old (length memory.old) }
-    ensures { Ready slab.new (length memory.new) }
-{
-    let room = slab.size(class) as usize;
-    if key.len() > room || block.len() > room - key.len() {
-        return None;
-    }
-    let tag = Tag {
-        hash: 0,
-        flags: 7,
-        expiry: None,
-        cas: 1,
-        moved: 0,
-    };
-    let Some(grant) = slab.take(class) else {
-        return None;
-    };
-    Some(slab.link(grant, memory, key, block, tag))
-}
-
-/// Puts the records from number `first` on into a class, at most five, and keeps copies of those that found room.
-pub fn fill(
-    slab: &mut Slab,
-    memory: &mut [u8],
-    class: usize,
-    first: u8,
-    copies: &mut Vec<Kept>,
-) -> Result<u32, AllocError>
-    requires { Ready slab.old (length memory.old) }
-    ensures { Ready slab.new (length memory.new) }
-{
-    let mut stored = 0u32;
-    for n in 0..5u8 {
-        let mut kept = record(first.wrapping_add(n));
-        if let Some(row) = store(slab, memory, class, &kept.key, &kept.block) {
-            kept.row = row;
-            copies.push(kept)?;
-            stored = stored.wrapping_add(1);
+impl Desk {
+    /// A desk with no records, unless the memory is too short for the pages that the rows serve.
+    pub fn open(plan: &Plan, rows: Vec<Row>, memory: Vec<u8>, copies: Vec<Kept>) -> Option<Desk> {
+        let slab = Slab::open(plan, rows);
+        if memory.len() / PAGE < slab.pages() as usize {
+            return None;
         }
+        Some(Desk {
+            slab,
+            memory,
+            copies,
+        })
     }
-    Ok(stored)
-}
 
-/// Takes the record of the copy at a place out of the slab.
-pub fn forget(slab: &mut Slab, memory: &[u8], copies: &mut Vec<Kept>, at: usize) -> bool
-    requires { Ready slab.old (length memory.now) }
-    ensures { Ready slab.new (length memory.now) }
-{
-    if at >= copies.len() {
-        return false;
+    /// Gives a page to a class, if one is left.
+    pub fn give_page(&mut self, class: usize) -> bool {
+        self.slab.give_page(class)
     }
-    let row = copies.remove(at).row;
-    let held = slab.holds(row);
-    if held {
-        slab.remove(row);
-    }
-    held
-}
 
-/// Grants a chunk of a class and returns it unused. Says whether there was one.
-pub fn borrow_chunk(slab: &mut Slab, memory: &[u8], class: usize) -> bool
-    requires { Ready slab.old (length memory.now) }
-    ensures { Ready slab.new (length memory.now) }
-{
-    match slab.take(class) {
-        Some(grant) => {
-            slab.give_back(grant);
-            true
+    // Puts a sample into a class, if that has a free chunk of its size, and gives its row.
+    fn store(&mut self, class: usize, sample: &Sample) -> Option<u32> {
+        let Sample { key, block } = sample;
+        let room = self.slab.size(class) as usize;
+        if key.len() + block.len() > room {
+            return None;
         }
-        None => false,
+        let tag = Tag {
+            flags: 7,
+            cas: 1,
+            ..Tag::default()
+        };
+        let grant = self.slab.take(class)?;
+        Some(self.slab.link(grant, &mut self.memory, key, block, tag))
     }
-}
 
-fn same(a: &[u8], b: &[u8]) -> bool {
-    a == b
-}
+    /// Puts the samples from number `first` on into a class, five at most, and keeps copies of those that found room.
+    pub fn fill(&mut self, class: usize, first: u8) -> Result<u32, AllocError> {
+        let mut stored = 0;
+        for n in 0..5 {
+            let sample = Sample::numbered(first.wrapping_add(n));
+            if let Some(row) = self.store(class, &sample) {
+                self.copies.push(Kept { row, sample })?;
+                stored += 1;
+            }
+        }
+        Ok(stored)
+    }
 
-/// Whether every record has the bytes of its copy.
-pub fn agree(slab: &Slab, memory: &[u8], copies: &[Kept]) -> bool
-    requires { Ready slab.now (length memory.now) }
-{
-    for kept in copies {
-        if !slab.holds(kept.row) {
+    /// Takes the record of the copy at a place out of the slab.
+    pub fn forget(&mut self, at: usize) -> bool {
+        if at >= self.copies.len() {
             return false;
         }
-        if !same(slab.key_of(memory, kept.row), &kept.key) {
-            return false;
-        }
-        if !same(slab.data_of(memory, kept.row), &kept.block) {
-            return false;
+        let kept = self.copies.remove(at);
+        self.slab.remove_if_held(kept.row)
+    }
+
+    /// Grants a chunk of a class and returns it unused. Says whether there was one.
+    pub fn borrow_chunk(&mut self, class: usize) -> bool {
+        match self.slab.take(class) {
+            Some(grant) => {
+                self.slab.give_back(grant);
+                true
+            }
+            None => false,
         }
     }
-    true
+
+    /// The counts of a class.
+    pub fn tally(&self, class: usize) -> Tally {
+        self.slab.tally(class)
+    }
+
+    /// How many pages were not given out yet.
+    pub fn free_pages(&self) -> u32 {
+        self.slab.free_pages()
+    }
+
+    /// Whether every record has the bytes of its copy.
+    pub fn agrees(&self) -> bool {
+        self.copies.iter().all(|kept| {
+            self.slab.holds(kept.row)
+                && self.slab.key_of(&self.memory, kept.row) == kept.sample.key.as_slice()
+                && self.slab.data_of(&self.memory, kept.row) == kept.sample.block.as_slice()
+        })
+    }
 }

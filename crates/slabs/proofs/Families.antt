@@ -12,7 +12,7 @@ use Rattle.slabs.specs.declared.class.Class.{Class}
 use Rattle.slabs.specs.declared.class.Stand.{Stand}
 use Rattle.slabs.specs.declared.class.Stand.TheVariants.{Free, Granted, Held}
 use Rattle.slabs.specs.Rows.{RowsRead, homes}
-use Rattle.slabs.specs.Classes.{place, no_list, no_class, list_at, count_at, with_share}
+use Rattle.slabs.specs.Classes.{place, no_chunks, no_class, at_stand, list_at, count_at, with_share}
 use Rattle.slabs.specs.Lists.{list_of, into, out_of, to_front, Family}
 use Rattle.slabs.proofs.Reading.{place_few, reads_as}
 
@@ -36,20 +36,24 @@ list_one s s' c c' e =
 list_same : (s s' : Stand) (c c' : ℕ) → c' ≡ c → place s' ≡ place s → list_of s' c' ≡ list_of s c
 list_same s s' c c' e p = let a = list_num s c in let b = list_num s' c' in omega arith
 
--- a part of one class that was written at one stand
-module _ {X : Type 0} (part : Class → List X) (d : X) (classes : List Class) (c : ℕ) (cls : Class) (stand : Stand) (long : c < length classes) (kept : (k : ℕ) → (k ≡ place stand → ⊥) → get_or (part cls) k d ≡ get_or (part (get_or classes c no_class)) k d) where
-  part_here : get_or (part (get_or (set classes c cls) c no_class)) (place stand) d ≡ get_or (part cls) (place stand) d
-  part_here = ap (λ x. get_or (part x) (place stand) d) (get_or-set_same classes c cls no_class long)
+-- one class was written, at one stand
+module _ (classes : List Class) (c : ℕ) (cls : Class) (stand : Stand) (long : c < length classes) (kept : (k : ℕ) → (k ≡ place stand → ⊥) → get_or cls.lists k no_chunks ≡ get_or (get_or classes c no_class).lists k no_chunks) where
+  part_here : (c' : ℕ) (s' : Stand) → list_of s' c' ≡ list_of stand c → at_stand (get_or (set classes c cls) c' no_class) s' ≡ at_stand cls stand
+  part_here c' s' e =
+      let one = list_one s' stand c' c e in
+      ap (λ k. at_stand (get_or (set classes c cls) k no_class) s') one.0
+      ∙ ap (λ k. get_or (get_or (set classes c cls) c no_class).lists k no_chunks) one.1
+      ∙ ap (λ x. at_stand x stand) (get_or-set_same classes c cls no_class long)
 
-  part_off : (c' : ℕ) (s' : Stand) → (list_of s' c' ≡ list_of stand c → ⊥) → get_or (part (get_or (set classes c cls) c' no_class)) (place s') d ≡ get_or (part (get_or classes c' no_class)) (place s') d
+  part_off : (c' : ℕ) (s' : Stand) → (list_of s' c' ≡ list_of stand c → ⊥) → at_stand (get_or (set classes c cls) c' no_class) s' ≡ at_stand (get_or classes c' no_class) s'
   part_off c' s' ne =
       ⊎_elim
       (λ (e : c' ≡ c).
-      ap (λ k. get_or (part (get_or (set classes c cls) k no_class)) (place s') d) e
-      ∙ ap (λ x. get_or (part x) (place s') d) (get_or-set_same classes c cls no_class long)
+      ap (λ k. at_stand (get_or (set classes c cls) k no_class) s') e
+      ∙ ap (λ x. at_stand x s') (get_or-set_same classes c cls no_class long)
       ∙ kept (place s') (λ p. ne (list_same stand s' c c' e p))
-      ∙ ap (λ k. get_or (part (get_or classes k no_class)) (place s') d) (sym e))
-      (λ off. ap (λ x. get_or (part x) (place s') d) (get_or-set_other classes c c' cls no_class off))
+      ∙ ap (λ k. at_stand (get_or classes k no_class) s') (sym e))
+      (λ off. ap (λ x. at_stand x s') (get_or-set_other classes c c' cls no_class off))
       (cases_eq c' c)
 
 -- how often a row stands in a list that another entered or left
@@ -97,33 +101,23 @@ module _ (classes : List Class) (rows : List Row) (ls : ℕ → List ℕ) (f : F
 -- one class, at one stand, was written, and the rows with it
 module _ (classes : List Class) (rows rows' : List Row) (c : ℕ) (cls : Class) (stand : Stand) (i : ℕ)
     (few : c < 33) (long : length classes ≡ 33) (within : i < length rows)
-    (lists : (k : ℕ) → (k ≡ place stand → ⊥) → get_or cls.lists k no_list ≡ get_or (get_or classes c no_class).lists k no_list)
-    (counts : (k : ℕ) → (k ≡ place stand → ⊥) → get_or cls.counts k 0 ≡ get_or (get_or classes c no_class).counts k 0)
+    (kept : (k : ℕ) → (k ≡ place stand → ⊥) → get_or cls.lists k no_chunks ≡ get_or (get_or classes c no_class).lists k no_chunks)
     (ls : ℕ → List ℕ) (f : Family classes rows ls) where
   -- the lists of another number
   other_reads : (ls' : List ℕ → List ℕ) → ((other : RecencyList) (mine : List ℕ) → RowsRead other rows mine → Apart (ls' (ls (list_of stand c))) mine → RowsRead other rows' mine) → (c' : ℕ) (s' : Stand) → c' < 33 → (list_of s' c' ≡ list_of stand c → ⊥) → Apart (ls' (ls (list_of stand c))) (ls (list_of s' c')) → RowsRead (list_at (set classes c cls) c' s') rows' (ls (list_of s' c'))
   other_reads ls' others c' s' few' ne ap' =
-      reads_as rows' rows' (ls (list_of s' c')) (part_off (λ x. x.lists) no_list classes c cls stand (omega arith) lists c' s' ne) refl refl
+      reads_as rows' rows' (ls (list_of s' c')) (ap (λ x. x.list) (part_off classes c cls stand (omega arith) kept c' s' ne)) refl refl
       (others (list_at classes c' s') (ls (list_of s' c')) (f.reads c' s' few') ap')
 
   -- the list of this number
-  here_reads : (ids : List ℕ) → RowsRead (get_or cls.lists (place stand) no_list) rows' ids → (c' : ℕ) (s' : Stand) → list_of s' c' ≡ list_of stand c → RowsRead (list_at (set classes c cls) c' s') rows' ids
-  here_reads ids l c' s' e =
-      let one = list_one s' stand c' c e in
-      reads_as rows' rows' ids
-      (ap (λ k. get_or (get_or (set classes c cls) k no_class).lists (place s') no_list) one.0
-      ∙ ap (λ k. get_or (get_or (set classes c cls) c no_class).lists k no_list) one.1
-      ∙ part_here (λ x. x.lists) no_list classes c cls stand (omega arith) lists) refl refl l
+  here_reads : (ids : List ℕ) → RowsRead (at_stand cls stand).list rows' ids → (c' : ℕ) (s' : Stand) → list_of s' c' ≡ list_of stand c → RowsRead (list_at (set classes c cls) c' s') rows' ids
+  here_reads ids l c' s' e = reads_as rows' rows' ids (ap (λ x. x.list) (part_here classes c cls stand (omega arith) kept c' s' e)) refl refl l
 
-  here_count : (c' : ℕ) (s' : Stand) → list_of s' c' ≡ list_of stand c → count_at (set classes c cls) c' s' ≡ get_or cls.counts (place stand) 0
-  here_count c' s' e =
-      let one = list_one s' stand c' c e in
-      ap (λ k. get_or (get_or (set classes c cls) k no_class).counts (place s') 0) one.0
-      ∙ ap (λ k. get_or (get_or (set classes c cls) c no_class).counts k 0) one.1
-      ∙ part_here (λ x. x.counts) 0 classes c cls stand (omega arith) counts
+  here_count : (c' : ℕ) (s' : Stand) → list_of s' c' ≡ list_of stand c → count_at (set classes c cls) c' s' ≡ (at_stand cls stand).count
+  here_count c' s' e = ap (λ x. x.count) (part_here classes c cls stand (omega arith) kept c' s' e)
 
   other_count : (c' : ℕ) (s' : Stand) → (list_of s' c' ≡ list_of stand c → ⊥) → count_at (set classes c cls) c' s' ≡ count_at classes c' s'
-  other_count c' s' ne = part_off (λ x. x.counts) 0 classes c cls stand (omega arith) counts c' s' ne
+  other_count c' s' ne = ap (λ x. x.count) (part_off classes c cls stand (omega arith) kept c' s' ne)
 
   -- the row names another list now
   home_at : (home : ℕ) → homes rows' ≡ set (homes rows) i home → (j : ℕ) → get_or (homes rows') j 0 ≡ cond (eqb j i) home (get_or (homes rows) j 0)
@@ -136,8 +130,8 @@ module _ (classes : List Class) (rows rows' : List Row) (c : ℕ) (cls : Class) 
 
   pub entered :
       get_or (homes rows) i 0 ≡ 0 →
-      get_or cls.counts (place stand) 0 ≡ count_at classes c stand + 1 →
-      ((ids : List ℕ) → RowsRead (list_at classes c stand) rows ids → count i ids ≡ 0 → RowsRead (get_or cls.lists (place stand) no_list) rows' (i ∷ ids)) →
+      (at_stand cls stand).count ≡ count_at classes c stand + 1 →
+      ((ids : List ℕ) → RowsRead (list_at classes c stand) rows ids → count i ids ≡ 0 → RowsRead (at_stand cls stand).list rows' (i ∷ ids)) →
       ((ids : List ℕ) → RowsRead (list_at classes c stand) rows ids → (other : RecencyList) (mine : List ℕ) → RowsRead other rows mine → Apart (i ∷ ids) mine → RowsRead other rows' mine) →
       homes rows' ≡ set (homes rows) i (list_of stand c) →
       Family (set classes c cls) rows' (into i (list_of stand c) ls)
@@ -158,7 +152,7 @@ module _ (classes : List Class) (rows rows' : List Row) (c : ℕ) (cls : Class) 
             cond_both (eqb (list_of s' c') h) (i ∷ ls (list_of s' c')) (ls (list_of s' c')) (λ ids. RowsRead (list_at (set classes c cls) c' s') rows' ids)
             (λ t.
             let e = eqb-true _ _ t in
-            here_reads (i ∷ ls (list_of s' c')) (subst (λ g. RowsRead (get_or cls.lists (place stand) no_list) rows' (i ∷ ls g)) (sym e) (listed (ls h) (f.reads c stand few) (absent classes rows ls f i h ph (λ e'. omega arith)))) c' s' e)
+            here_reads (i ∷ ls (list_of s' c')) (subst (λ g. RowsRead (at_stand cls stand).list rows' (i ∷ ls g)) (sym e) (listed (ls h) (f.reads c stand few) (absent classes rows ls f i h ph (λ e'. omega arith)))) c' s' e)
             (λ t.
             let ne = eqb-false _ _ t in
             other_reads (λ ids. i ∷ ids) (others (ls h) (f.reads c stand few)) c' s' few' ne (apart_entered classes rows ls f i h (list_of s' c') ph (list_some s' c') z ne));
@@ -175,8 +169,8 @@ module _ (classes : List Class) (rows rows' : List Row) (c : ℕ) (cls : Class) 
 
   pub left :
       get_or (homes rows) i 0 ≡ list_of stand c →
-      get_or cls.counts (place stand) 0 ≡ count_at classes c stand - 1 →
-      ((ids : List ℕ) → RowsRead (list_at classes c stand) rows ids → count i ids ≡ 1 → RowsRead (get_or cls.lists (place stand) no_list) rows' (without i ids)) →
+      (at_stand cls stand).count ≡ count_at classes c stand - 1 →
+      ((ids : List ℕ) → RowsRead (list_at classes c stand) rows ids → count i ids ≡ 1 → RowsRead (at_stand cls stand).list rows' (without i ids)) →
       ((ids : List ℕ) → RowsRead (list_at classes c stand) rows ids → count i ids ≡ 1 → (other : RecencyList) (mine : List ℕ) → RowsRead other rows mine → Apart ids mine → RowsRead other rows' mine) →
       homes rows' ≡ set (homes rows) i 0 →
       Family (set classes c cls) rows' (out_of i (list_of stand c) ls)
@@ -197,7 +191,7 @@ module _ (classes : List Class) (rows rows' : List Row) (c : ℕ) (cls : Class) 
             cond_both (eqb (list_of s' c') h) (without i (ls (list_of s' c'))) (ls (list_of s' c')) (λ ids. RowsRead (list_at (set classes c cls) c' s') rows' ids)
             (λ t.
             let e = eqb-true _ _ t in
-            here_reads (without i (ls (list_of s' c'))) (subst (λ g. RowsRead (get_or cls.lists (place stand) no_list) rows' (without i (ls g))) (sym e) (listed (ls h) (f.reads c stand few) one)) c' s' e)
+            here_reads (without i (ls (list_of s' c'))) (subst (λ g. RowsRead (at_stand cls stand).list rows' (without i (ls g))) (sym e) (listed (ls h) (f.reads c stand few) one)) c' s' e)
             (λ t.
             let ne = eqb-false _ _ t in
             other_reads (λ ids. ids) (others (ls h) (f.reads c stand few) one) c' s' few' ne (apart classes rows ls f h (list_of s' c') ph (list_some s' c') ne));
@@ -215,8 +209,8 @@ module _ (classes : List Class) (rows rows' : List Row) (c : ℕ) (cls : Class) 
 
   pub refreshed :
       get_or (homes rows) i 0 ≡ list_of stand c →
-      get_or cls.counts (place stand) 0 ≡ count_at classes c stand →
-      ((ids : List ℕ) → RowsRead (list_at classes c stand) rows ids → count i ids ≡ 1 → RowsRead (get_or cls.lists (place stand) no_list) rows' (i ∷ without i ids)) →
+      (at_stand cls stand).count ≡ count_at classes c stand →
+      ((ids : List ℕ) → RowsRead (list_at classes c stand) rows ids → count i ids ≡ 1 → RowsRead (at_stand cls stand).list rows' (i ∷ without i ids)) →
       ((ids : List ℕ) → RowsRead (list_at classes c stand) rows ids → count i ids ≡ 1 → (other : RecencyList) (mine : List ℕ) → RowsRead other rows mine → Apart ids mine → RowsRead other rows' mine) →
       homes rows' ≡ homes rows →
       Family (set classes c cls) rows' (to_front i (list_of stand c) ls)
@@ -242,7 +236,7 @@ module _ (classes : List Class) (rows rows' : List Row) (c : ℕ) (cls : Class) 
             cond_both (eqb (list_of s' c') h) (i ∷ without i (ls (list_of s' c'))) (ls (list_of s' c')) (λ ids. RowsRead (list_at (set classes c cls) c' s') rows' ids)
             (λ t.
             let e = eqb-true _ _ t in
-            here_reads (i ∷ without i (ls (list_of s' c'))) (subst (λ g. RowsRead (get_or cls.lists (place stand) no_list) rows' (i ∷ without i (ls g))) (sym e) (listed (ls h) (f.reads c stand few) one)) c' s' e)
+            here_reads (i ∷ without i (ls (list_of s' c'))) (subst (λ g. RowsRead (at_stand cls stand).list rows' (i ∷ without i (ls g))) (sym e) (listed (ls h) (f.reads c stand few) one)) c' s' e)
             (λ t.
             let ne = eqb-false _ _ t in
             other_reads (λ ids. ids) (others (ls h) (f.reads c stand few) one) c' s' few' ne (apart classes rows ls f h (list_of s' c') ph (list_some s' c') ne));
@@ -284,6 +278,6 @@ module _ (classes : List Class) (class pages : ℕ) (lt : class < length classes
   family_share rows ls f =
       record {
         named = f.named;
-        reads = λ c stand few. reads_as rows rows (ls (list_of stand c)) (share_part (λ x. get_or x.lists (place stand) no_list) refl c) refl refl (f.reads c stand few);
-        counted = λ c stand few. share_part (λ x. get_or x.counts (place stand) 0) refl c ∙ f.counted c stand few;
+        reads = λ c stand few. reads_as rows rows (ls (list_of stand c)) (share_part (λ x. (at_stand x stand).list) refl c) refl refl (f.reads c stand few);
+        counted = λ c stand few. share_part (λ x. (at_stand x stand).count) refl c ∙ f.counted c stand few;
       }

@@ -13,3 +13,4 @@ pub mod Shifts
 pub mod Walks
 pub mod Answering
 pub mod Lending
+pub mod Making

@@ -1,9 +1,6 @@
 -- What was just opened is in order, and has no rows in its lists.
-use Rattle.std.proofs.Common.{◌≡◌, ℕ, zero, suc, ◌+◌, ◌-◌, ◌*◌, ◌/◌, ◌<◌, ◌≤◌, Bool, true, false, cond, ◌&&◌, leb, List, [], ◌∷◌, map, length, get_or, replicate, Some, None, unwrap_or, Vec, vec_items, sym, refl, ap, ◌∙◌, ⊎_elim, div-lt_iff_lt-mul, zero-mul, arith, length-take}
-use Rattle.std.specs.declared.alloc.Global.{Global}
-use Rattle.std.specs.Vec.{with_items}
+use Rattle.std.proofs.Common.{◌≡◌, ℕ, zero, suc, ◌+◌, ◌-◌, ◌*◌, ◌/◌, ◌<◌, ◌≤◌, Bool, true, false, cond, ◌&&◌, leb, List, [], ◌∷◌, map, length, get_or, replicate, Some, None, unwrap_or, sym, refl, ap, ◌∙◌, ⊎_elim, div-lt_iff_lt-mul, zero-mul, arith, length-take}
 use lib.ListN.{length-map, length-replicate}
-use Rattle.std.proofs.lemmas.List.{with_items_is}
 use Rattle.std.proofs.lemmas.List.{get_or_past, get_or-map}
 use Rattle.std.proofs.lemmas.Bool.{cases_lt, and_parts, and_right, leb-true, lt-leb, cond-false}
 use Rattle.std.proofs.lemmas.Bool.Decides.{nat_tests}
@@ -84,11 +81,9 @@ zeros zero i = refl
 zeros (suc n) zero = refl
 zeros (suc n) (suc i) = zeros n i
 
--- the rows that were handed over, cut to whole pages and blanked
-pub rows_opened : (v : Vec Row Global) (lent ws : List Row) (pages : ℕ) → v.len ≡ 85 * pages → length lent ≡ v.len → ws ≡ replicate (length lent) blank → vec_items (with_items v ws) ≡ replicate (85 * pages) blank
-rows_opened v lent ws pages cut same blanks =
-    let all : ws ≡ replicate (85 * pages) blank = blanks ∙ ap (λ k. replicate k blank) (same ∙ cut) in
-    with_items_is v ws (ap length all ∙ length-replicate (85 * pages) blank ∙ sym cut) ∙ all
+-- rows that were filled with a blank one
+pub rows_opened : {rows : List Row} {row : Row} {n : ℕ} → rows ≡ replicate n row → (pages : ℕ) → n ≡ 85 * pages → row ≡ blank → rows ≡ replicate (85 * pages) blank
+rows_opened {row = row} filled pages long same = filled ∙ ap (λ k. replicate k row) long ∙ ap (λ x. replicate (85 * pages) x) same
 
 module _ (classes : List Class) (all : List Row) (owners : List ℕ) (pages : ℕ) (plan : Plan) (rows : all ≡ replicate (85 * pages) blank) (few : pages ≤ 256) (bare : owners ≡ replicate 256 0) (long : length classes ≡ 33) (fresh : (class : ℕ) → class < 33 → Fresh (plan_sizes plan) class (get_or classes class no_class)) where
   abbrev the : Layout

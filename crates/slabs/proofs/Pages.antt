@@ -198,6 +198,10 @@ module _ (s : Slab) where
   pub classes_few : (class : ℕ) → 33 ≤ class → get_or (layout s).chunks class 0 ≡ 0
   classes_few class far = get_or_past (layout s).chunks class 0 (∥∥₁_elim s.ok le_prop (λ z. let c = z.placed.classes.1 in omega arith))
 
+  -- a class with chunks is a class
+  pub class_of_chunks : (class : ℕ) → 0 < get_or (layout s).chunks class 0 → class < 33
+  class_of_chunks class some = ⊎_elim (λ lt. lt) (λ past. absurd (omega (arith, classes_few class past))) (cases_lt class 33)
+
   pub no_share_past : (class : ℕ) → 33 ≤ class → get_or (layout s).shares class 0 ≡ 0
   no_share_past class far = get_or_past (layout s).shares class 0 (∥∥₁_elim s.ok le_prop (λ z. let c = z.placed.classes.2 in omega arith))
 

@@ -11,9 +11,6 @@ use crate::class::{Class, Stand, number};
 use crate::row::Row;
 use plan::Plan;
 
-/// The most classes, and one that stands for none.
-const CLASSES: usize = 33;
-
 /// The classes by number; class 0 and those past the plan's are no classes.
 #[derive(Clone, Copy)]
 pub struct Classes {
@@ -26,12 +23,9 @@ impl Classes {
         ensures long { length result.all ≡ 33 }
         ensures classes { (class : ℕ) → class < 33 → Fresh (plan_sizes plan.now) class (slice_index_or result.all class no_class) }
     {
-        let none = Class::planned(plan, 0);
-        let mut all = [none; CLASSES];
-        for class in 1..CLASSES {
-            all[class] = Class::planned(plan, class);
+        Classes {
+            all: std::array::from_fn(|class| Class::planned(plan, class)),
         }
-        Classes { all }
     }
 
     // Puts a row that is in no list at the front of a list of a class.
@@ -109,8 +103,8 @@ impl Classes {
         ensures rests { rests rows.new ≡ rests rows.old }
         ensures frames { map frame self.new.all ≡ map frame self.old.all }
     {
-        for place in 0..chunks {
-            self.enter(rows, class, Stand::Free, first + place);
+        for i in first..first + chunks {
+            self.enter(rows, class, Stand::Free, i);
         }
     }
 }

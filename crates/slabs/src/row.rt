@@ -8,7 +8,7 @@ use chained::Chained;
 use recency::Linked;
 
 /// What the layer above tells of a record beside its key and data.
-#[derive(Clone, Copy)]
+#[derive(Clone, Copy, Default)]
 pub struct Tag {
     pub hash: u32,
     pub flags: u32,
@@ -20,7 +20,7 @@ pub struct Tag {
 }
 
 /// One row for each chunk that a page can have. The row names the list that it is in.
-#[derive(Clone, Copy)]
+#[derive(Clone, Copy, Default)]
 pub struct Row {
     pub next: u32,
     pub prev: u32,
@@ -37,22 +37,7 @@ impl Row {
     pub fn blank() -> Row
         ensures { result ≡ blank }
     {
-        let tag = Tag {
-            hash: 0,
-            flags: 0,
-            expiry: None,
-            cas: 0,
-            moved: 0,
-        };
-        Row {
-            next: 0,
-            prev: 0,
-            home: 0,
-            chain: 0,
-            key_len: 0,
-            data_len: 0,
-            tag,
-        }
+        Row::default()
     }
 }
 

@@ -14,9 +14,6 @@ mod records;
 
 pub use pages::Tally;
 
-/// The most classes, and one that stands for none.
-const CLASSES: usize = 33;
-
 /// The most chunks that a page can have.
 const ROWS_PER_PAGE: usize = 85;
 

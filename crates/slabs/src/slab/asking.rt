@@ -1,17 +1,18 @@
 //! What may be asked and done of any row, with no need to know that it holds a record, and of a grant that key and data may
 //! not fit.
 
-ghost use Rattle.std.specs.Prelude.{◌≡◌, ℕ, ◌<◌, List, ◌∷◌, ◌++◌, None, MatchResult, slice_index, slice_index_or};
+ghost use Rattle.std.specs.Prelude.{◌≡◌, ℕ, ◌<◌, List, ◌∷◌, ◌++◌, None, Decides, MatchResult, slice_index, slice_index_or};
 ghost use Rattle.recency.specs.Lists.{rearmost};
-ghost use Rattle.slabs.specs.Rows.{rests};
+ghost use Rattle.slabs.specs.Rows.{blank, rests};
 ghost use Rattle.slabs.specs.Lists.{free_of, held_of, to_front};
 ghost use Rattle.slabs.specs.Layouts.{class_at, start};
 ghost use Rattle.slabs.specs.Slabs.{rows_of, layout, Lists, Shifted, Reordered, Holds, Granted, IfHeld, Tells};
 ghost use Rattle.slabs.specs.Records.{Retagged, FitsGrant, Filled, bytes_at, key_of, data_of, tags};
 
-use super::{MOST_PAGES, PAGE, ROWS_PER_PAGE, Slab};
+use super::{PAGE, Slab};
+use crate::class::{Stand, number};
 use crate::grant::Grant;
-use crate::row::Tag;
+use crate::row::{Row, Tag};
 
 // Bytes from a place on, as far as there are any.
 fn cut(bytes: &[u8], from: usize, len: u32) -> &[u8]
@@ -23,27 +24,42 @@ fn cut(bytes: &[u8], from: usize, len: u32) -> &[u8]
 }
 
 impl Slab {
+    // The row, if it holds a record.
+    fn held(&self, i: u32) -> Option<&Row>
+        ensures { Tells self.now i result (λ row. row.now ≡ slice_index_or (rows_of self.now) i blank) }
+    {
+        let row = self.rows.get(i as usize)?;
+        (row.home == number(Stand::Held, self.class_of(i))).then_some(row)
+    }
+
+    /// Whether a row holds a record.
+    pub fn holds(&self, i: u32) -> bool
+        ensures { Decides result (Holds self.now i) }
+    {
+        self.held(i).is_some()
+    }
+
     /// Removes a record: its chunk is free. False, and nothing done, where the row holds none.
     pub fn remove_if_held(&mut self, i: u32) -> bool
         ensures removed { IfHeld self.old i result (Shifted self.old self.new i (held_of (class_at (layout self.old) i)) (free_of (class_at (layout self.old) i))) (self.new ≡ self.old) }
         ensures rests { rests (rows_of self.new) ≡ rests (rows_of self.old) }
     {
-        if !self.holds(i) {
-            return false;
+        let held = self.holds(i);
+        if held {
+            self.remove(i);
         }
-        self.remove(i);
-        true
+        held
     }
 
     /// Moves a record to the front of its class. False, and nothing done, where the row holds none.
     pub fn move_to_front_if_held(&mut self, i: u32) -> bool
         ensures { IfHeld self.old i result (Reordered self.old self.new (to_front i (held_of (class_at (layout self.old) i)))) (self.new ≡ self.old) }
     {
-        if !self.holds(i) {
-            return false;
+        let held = self.holds(i);
+        if held {
+            self.move_to_front(i);
         }
-        self.move_to_front(i);
-        true
+        held
     }
 
     /// The record ahead of one in its class, towards the front: a walk from the back goes on here. None where the row
@@ -82,48 +98,27 @@ impl Slab {
         Ok(self.link(grant, memory, key, block, tag))
     }
 
-    // The class that a page was given to, 0 for none.
-    fn owner_of(&self, page: usize) -> usize
-        ensures { result ≡ slice_index self.now.owners page }
-    {
-        if page < MOST_PAGES {
-            self.owners[page] as usize
-        } else {
-            0
-        }
-    }
-
     /// Some bytes from where the chunk of a row begins, as far as page memory has them: whoever looks for a key reads
     /// here, with no need to know that the row holds a record.
     pub fn bytes_of<'a>(&self, memory: &'a [u8], i: u32, len: u32) -> &'a [u8]
         ensures { result.now ≡ bytes_at memory.now (start (layout self.now) i) len }
     {
-        let page = i as usize / ROWS_PER_PAGE;
-        let place = i as usize % ROWS_PER_PAGE;
-        let size = self.size(self.owner_of(page)) as usize;
-        let start = page * PAGE + place * size;
-        cut(memory, start, len)
+        cut(memory, self.start(i), len)
     }
 
     /// The key of a record, where it lies in page memory, as far as page memory has it. None where the row holds no record.
     pub fn key_if_held<'a>(&self, memory: &'a [u8], i: u32) -> Option<&'a [u8]>
         ensures { Tells self.now i result (λ key. key.now ≡ key_of self.now memory.now i) }
     {
-        if !self.holds(i) {
-            return None;
-        }
-        let len = self.row(i).key_len;
-        Some(self.bytes_of(memory, i, len))
+        let row = self.held(i)?;
+        Some(self.bytes_of(memory, i, row.key_len))
     }
 
     /// The data of a record, where they lie in page memory, as far as page memory has them. None where the row holds no record.
     pub fn data_if_held<'a>(&self, memory: &'a [u8], i: u32) -> Option<&'a [u8]>
         ensures { Tells self.now i result (λ block. block.now ≡ data_of self.now memory.now i) }
     {
-        if !self.holds(i) {
-            return None;
-        }
-        let row = self.row(i);
+        let row = self.held(i)?;
         let at = self.start(i) + row.key_len as usize;
         Some(cut(memory, at, row.data_len))
     }
@@ -132,20 +127,18 @@ impl Slab {
     pub fn tag_if_held(&self, i: u32) -> Option<Tag>
         ensures { Tells self.now i result (λ tag. (d : Tag) → tag ≡ slice_index_or (tags (rows_of self.now)) i d) }
     {
-        if !self.holds(i) {
-            return None;
-        }
-        Some(self.tag(i))
+        let row = self.held(i)?;
+        Some(row.tag)
     }
 
     /// Tells something else of a record. False, and nothing done, where the row holds none.
     pub fn set_tag_if_held(&mut self, i: u32, tag: Tag) -> bool
         ensures { IfHeld self.old i result (Retagged self.old self.new i tag) (self.new ≡ self.old) }
     {
-        if !self.holds(i) {
-            return false;
+        let held = self.holds(i);
+        if held {
+            self.set_tag(i, tag);
         }
-        self.set_tag(i, tag);
-        true
+        held
     }
 }

@@ -27,7 +27,7 @@ impl Slab {
     fn first(&self, class: usize, stand: Stand) -> Option<u32>
         ensures { (ls : ℕ → List ℕ) → Lists self.now ls → result ≡ foremost (ls (list_of stand class)) }
     {
-        self.classes.all.get(class)?.first(stand)
+        self.classes.all.get(class)?.at(stand).list.front()
     }
 
     /// Grants a free chunk of a class, if it has one.
@@ -74,7 +74,7 @@ impl Slab {
     pub fn rearmost(&self, class: usize) -> Option<u32>
         ensures { (ls : ℕ → List ℕ) → Lists self.now ls → result ≡ rearmost (ls (held_of class)) }
     {
-        self.classes.all.get(class)?.last(Stand::Held)
+        self.classes.all.get(class)?.at(Stand::Held).list.back()
     }
 
     /// The record at the front of a class, if it has one.
@@ -96,19 +96,16 @@ impl Slab {
     pub fn class_held(&self, i: u32) -> Option<usize>
         ensures { Tells self.now i result (λ class. (class ≡ class_at (layout self.now) i) × (class < 33)) }
     {
-        if self.holds(i) {
-            Some(self.class_of(i))
-        } else {
-            None
-        }
+        self.holds(i).then(|| self.class_of(i))
     }
 
-    // The class of the page of a row that is in a list.
+    // The class of the page of a row, 0 where no class has it.
     pub(super) fn class_of(&self, i: u32) -> usize
-        requires { 0 < slice_index (homes_of self.now) i }
         ensures value { result ≡ class_at (layout self.now) i }
         ensures few { result < 33 }
     {
-        self.owners[i as usize / ROWS_PER_PAGE] as usize
+        self.owners
+            .get(i as usize / ROWS_PER_PAGE)
+            .map_or(0, |class| *class as usize)
     }
 }

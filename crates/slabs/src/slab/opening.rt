@@ -11,32 +11,11 @@ use crate::classes::Classes;
 use crate::row::Row;
 use plan::Plan;
 
-// Leaves nothing of what rows held.
-fn blank_rows(rows: &mut [Row])
-    ensures { rows.new ≡ replicate (length rows.old) blank }
-{
-    for row in rows.iter_mut() {
-        *row = Row::blank();
-    }
-}
-
 // How many pages so many rows serve.
 fn pages_for(rows: usize) -> usize
     ensures { result ≡ pages_of rows }
 {
-    let pages = rows / ROWS_PER_PAGE;
-    if pages < MOST_PAGES {
-        pages
-    } else {
-        MOST_PAGES
-    }
-}
-
-// No page has an owner.
-fn unowned() -> [u8; 256]
-    ensures { result ≡ replicate 256 0 }
-{
-    [0; 256]
+    (rows / ROWS_PER_PAGE).min(MOST_PAGES)
 }
 
 impl Slab {
@@ -47,13 +26,11 @@ impl Slab {
     {
         let pages = pages_for(rows.len());
         rows.truncate(ROWS_PER_PAGE * pages);
-        blank_rows(&mut rows);
-        let classes = Classes::planned(plan);
-        let owners = unowned();
+        rows.fill(Row::blank());
         Slab {
             rows,
-            classes,
-            owners,
+            classes: Classes::planned(plan),
+            owners: [0; MOST_PAGES],
             given: 0,
             pages: pages as u32,
         }

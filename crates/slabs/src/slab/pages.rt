@@ -7,10 +7,17 @@ ghost use Rattle.slabs.specs.declared.class.Stand.TheVariants.{Free};
 ghost use Rattle.slabs.specs.Lists.{free_of, granted_of, held_of, stocked, filled};
 ghost use Rattle.slabs.specs.Slabs.{rows_of, homes_of, layout, Lists, PageGiven};
 
-use super::{CLASSES, ROWS_PER_PAGE, Slab};
+use super::{ROWS_PER_PAGE, Slab};
 use crate::class::Stand;
 
 impl Slab {
+    // How many chunks a page gives a class, 0 where there is no such class.
+    fn chunks(&self, class: usize) -> u32
+        ensures { result ≡ slice_index (layout self.now).chunks class }
+    {
+        self.classes.all.get(class).map_or(0, |class| class.chunks)
+    }
+
     /// Gives the next free page to a class: all its chunks are free. False, and nothing done, where there is no free
     /// page or no such class.
     pub fn give_page(&mut self, class: usize) -> bool
@@ -18,14 +25,8 @@ impl Slab {
         ensures given { MatchBool result (PageGiven self.old self.new class) (self.new ≡ self.old) }
         ensures rests { rests (rows_of self.new) ≡ rests (rows_of self.old) }
     {
-        if self.given >= self.pages {
-            return false;
-        }
-        if class >= CLASSES {
-            return false;
-        }
-        let chunks = self.classes.all[class].chunks;
-        if chunks == 0 {
+        let chunks = self.chunks(class);
+        if self.given >= self.pages || chunks == 0 {
             return false;
         }
         let page = self.given;
@@ -39,7 +40,7 @@ impl Slab {
 }
 
 /// What is counted of a class: its pages, and its chunks by what they are.
-#[derive(Clone, Copy)]
+#[derive(Clone, Copy, Default)]
 pub struct Tally {
     pub pages: u32,
     pub free: u32,
@@ -54,19 +55,14 @@ impl Slab {
         ensures counts { (ls : ℕ → List ℕ) → Lists self.now ls → (result.free ≡ length (ls (free_of class))) × (result.granted ≡ length (ls (granted_of class))) × (result.used ≡ length (ls (held_of class))) }
         ensures whole { result.free + result.granted + result.used ≡ result.pages * slice_index (layout self.now).chunks class }
     {
-        if class >= CLASSES {
-            return Tally {
-                pages: 0,
-                free: 0,
-                granted: 0,
-                used: 0,
-            };
-        }
+        let Some(class) = self.classes.all.get(class) else {
+            return Tally::default();
+        };
         Tally {
-            pages: self.classes.all[class].pages,
-            free: self.classes.all[class].count(Stand::Free),
-            granted: self.classes.all[class].count(Stand::Granted),
-            used: self.classes.all[class].count(Stand::Held),
+            pages: class.pages,
+            free: class.at(Stand::Free).count,
+            granted: class.at(Stand::Granted).count,
+            used: class.at(Stand::Held).count,
         }
     }
 

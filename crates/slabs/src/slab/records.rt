@@ -1,14 +1,14 @@
 //! Records: their bytes in page memory, and what their rows tell of them.
 
-ghost use Rattle.std.specs.Prelude.{◌≡◌, ℕ, ◌+◌, ◌*◌, ◌<◌, ◌≤◌, List, map, length, Decides, ◌≢◌, slice_index, slice_index_or};
+ghost use Rattle.std.specs.Prelude.{◌≡◌, ℕ, ◌+◌, ◌*◌, ◌<◌, ◌≤◌, List, map, length, ◌≢◌, slice_index, slice_index_or};
 ghost use Rattle.slabs.specs.Rows.{homes};
 ghost use Rattle.slabs.specs.Lists.{granted_of, held_of};
 ghost use Rattle.slabs.specs.Layouts.{start, Chunk};
 ghost use Rattle.slabs.specs.Slabs.{rows_of, homes_of, layout, Lists, Shifted, Holds, Granted};
 ghost use Rattle.slabs.specs.Records.{Described, Written, Retagged, chunk_of, key_of, data_of, key_lens, data_lens, tags};
 
-use super::{CLASSES, PAGE, ROWS_PER_PAGE, Slab};
-use crate::class::{Stand, number};
+use super::{PAGE, ROWS_PER_PAGE, Slab};
+use crate::class::Stand;
 use crate::grant::Grant;
 use crate::row::{Row, Tag};
 
@@ -53,15 +53,13 @@ impl Slab {
         describe_row(&mut self.rows, i, key_len, data_len, tag);
     }
 
-    // Where the chunk of a row that is in a list begins.
+    // Where the chunk of a row begins.
     pub(super) fn start(&self, i: u32) -> usize
-        requires { 0 < slice_index (homes_of self.now) i }
         ensures { result ≡ start (layout self.now) i }
     {
-        let class = self.class_of(i);
         let page = i as usize / ROWS_PER_PAGE;
         let place = i as usize % ROWS_PER_PAGE;
-        page * PAGE + place * self.classes.all[class].size as usize
+        page * PAGE + place * self.size(self.class_of(i)) as usize
     }
 
     /// Fills a granted chunk with a key and its data: it becomes the front record of its class. Gives its row.
@@ -103,26 +101,11 @@ impl Slab {
         self.rows[i as usize]
     }
 
-    /// Whether a row holds a record.
-    pub fn holds(&self, i: u32) -> bool
-        ensures { Decides result (Holds self.now i) }
-    {
-        if i as usize >= self.rows.len() {
-            return false;
-        }
-        let class = self.owners[i as usize / ROWS_PER_PAGE] as usize;
-        self.rows[i as usize].home == number(Stand::Held, class)
-    }
-
     /// The size of a class's chunks, 0 where there is no such class.
     pub fn size(&self, class: usize) -> u32
         ensures { result ≡ slice_index (layout self.now).sizes class }
     {
-        if class >= CLASSES {
-            0
-        } else {
-            self.classes.all[class].size
-        }
+        self.classes.all.get(class).map_or(0, |class| class.size)
     }
 
     /// The key of a record, where it lies in page memory.

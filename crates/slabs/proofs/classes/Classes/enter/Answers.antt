@@ -34,7 +34,7 @@ returns c =
     let long : length classes ≡ 33 = search rules in
     let home : homes ws ≡ set (homes rows) i (list_of stand class) = told.homes ∙ ap (λ h. set (homes rows) i h) c.number-home.ensures in
     record {
-      lists = λ ls f. entered classes rows ws class cls stand i c.requires.class long c.requires.within told.lists told.counts ls f c.requires.home told.counted told.listed told.others home;
+      lists = λ ls f. entered classes rows ws class cls stand i c.requires.class long c.requires.within told.kept ls f c.requires.home told.counted told.listed told.others home;
       homes = home;
       rests = told.rests;
       frames = column_kept frame classes class no_class cls (omega (arith, c.requires.class)) told.frame;

@@ -36,7 +36,7 @@ returns c =
     let told = c.leave.ensures in
     let long : length classes ≡ 33 = search rules in
     record {
-      lists = λ ls f. left classes rows c.leave.new.rows class cls c.args.stand c.args.i c.requires.class long c.requires.within told.lists told.counts ls f c.requires.home told.counted told.listed told.others told.homes;
+      lists = λ ls f. left classes rows c.leave.new.rows class cls c.args.stand c.args.i c.requires.class long c.requires.within told.kept ls f c.requires.home told.counted told.listed told.others told.homes;
       homes = told.homes;
       rests = told.rests;
       frames = column_kept frame classes class no_class cls (omega (arith, c.requires.class)) told.frame;

@@ -1,7 +1,7 @@
-use Rattle.std.proofs.Common.{◌≡◌, length, get_or, ap, arith, rules}
+use Rattle.std.proofs.Common.{◌≡◌, length, arith, rules}
 use mathlib.Core.Logic.{∥∥₁_map}
 use Rattle.recency.proofs.Columns.{column_kept}
-use Rattle.slabs.specs.Classes.{place, frame, no_class}
+use Rattle.slabs.specs.Classes.{frame, no_class}
 use Rattle.slabs.specs.Lists.{list_of}
 use Rattle.slabs.proofs.Families.{refreshed, present, list_some}
 use Rattle.slabs.proofs.classes.Classes.refresh.Goals as goal
@@ -28,9 +28,8 @@ returns c =
     let stand = c.args.stand in
     let told = c.refresh.ensures in
     let long : length classes ≡ 33 = search rules in
-    let count = λ (k : _). ap (λ xs. get_or xs k 0) told.counts in
     record {
-      lists = λ ls f. refreshed classes rows c.refresh.new.rows class cls stand c.args.i c.requires.class long c.requires.within told.lists (λ k _. count k) ls f c.requires.home (count (place stand)) told.listed told.others told.homes;
+      lists = λ ls f. refreshed classes rows c.refresh.new.rows class cls stand c.args.i c.requires.class long c.requires.within told.kept ls f c.requires.home told.counted told.listed told.others told.homes;
       homes = told.homes;
       rests = told.rests;
       frames = column_kept frame classes class no_class cls (omega (arith, c.requires.class)) told.frame;

@@ -1,16 +1,11 @@
-use Rattle.std.proofs.Common.{◌∷◌, ◌++◌, length, sym, ap, subst, arith}
+use Rattle.std.proofs.Common.{◌∷◌, ◌++◌, sym, subst}
 use Rattle.slabs.specs.declared.class.Stand.TheVariants.{Held}
 use Rattle.slabs.specs.Rows.{RowsRead}
 use Rattle.slabs.specs.Classes.{list_at}
 use Rattle.slabs.specs.Layouts.{class_at}
 use Rattle.slabs.specs.Slabs.{rows_of, layout}
-use Rattle.slabs.proofs.Sounds.{row_within, class_few}
+use Rattle.slabs.proofs.Sounds.{class_few}
 use Rattle.slabs.proofs.slab.Slab.ahead_of.Goals as goal
-
-pub ahead_of-requires : goal.ahead_of-requires
-ahead_of-requires c =
-    let s = c.args.self.now in
-    omega (arith, ap length c.deref.ensures.value, row_within s c.args.i (class_at (layout s) c.args.i) Held c.requires)
 
 pub returns : goal.returns
 returns c = λ ls f a b e.

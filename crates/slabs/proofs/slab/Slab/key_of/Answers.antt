@@ -1,7 +1,4 @@
-use Rattle.std.proofs.Common.{◌≡◌, ◌+◌, ◌-◌, ap, ◌∙◌, arith}
-use Rattle.slabs.specs.Layouts.{start}
-use Rattle.slabs.specs.Slabs.{layout}
-use Rattle.slabs.specs.Records.{bytes_at}
+use Rattle.std.proofs.Common.{arith}
 use Rattle.slabs.proofs.Telling.{record_end}
 use Rattle.slabs.proofs.slab.Slab.key_of.Goals as goal
 
@@ -15,13 +12,3 @@ pub slice_bounds-result-end : goal.slice_bounds-result-end
 slice_bounds-result-end c =
     let end = record_end c.args.self.now c.args.i c.requires.held in
     omega (arith, end.0, c.requires.memory, c.row-row.ensures.key, c.start-at.ensures)
-
-pub returns : goal.returns
-returns c =
-    let at = c.start-at.result in
-    let n = c.row-row.result.key_len in
-    let memory = c.args.memory.now in
-    let long : (at + n) - at ≡ n = omega arith in
-    ap (λ k. bytes_at memory at k) long
-    ∙ ap (λ k. bytes_at memory k n) c.start-at.ensures
-    ∙ ap (λ k. bytes_at memory (start (layout c.args.self.now) c.args.i) k) c.row-row.ensures.key

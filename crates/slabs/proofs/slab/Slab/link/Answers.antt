@@ -1,4 +1,4 @@
-use Rattle.std.proofs.Common.{◌≡◌, ◌+◌, ◌<◌, ◌≤◌, length, get_or, set, sym, refl, ap, ◌∙◌, subst, arith}
+use Rattle.std.proofs.Common.{◌≡◌, ◌+◌, ◌≤◌, length, get_or, set, sym, refl, ap, ◌∙◌, subst, arith}
 use lib.ListN.{length-map}
 use Rattle.std.proofs.lemmas.List.{get_or-set_same}
 use Rattle.slabs.specs.declared.class.Stand.TheVariants.{Granted, Held}
@@ -6,62 +6,25 @@ use Rattle.slabs.specs.Layouts.{start, size_at, class_at}
 use Rattle.slabs.specs.Lists.{held_of}
 use Rattle.slabs.specs.Slabs.{rows_of, homes_of, layout}
 use Rattle.slabs.specs.Records.{Written}
-use Rattle.slabs.proofs.Ends.{class_is, listed_within, page_within, chunk_inside, size_of_class, chunk_there, record_fits, lie_apart}
+use Rattle.slabs.proofs.Ends.{class_is, listed_within, size_of_class, chunk_there, record_fits, lie_apart}
 use Rattle.slabs.proofs.Bytes.{chunk_kept}
 use Rattle.slabs.proofs.Telling.{span_sum, key_len_there, data_len_there, described_rests, record_kept, record_there}
 use Rattle.slabs.proofs.slab.Slab.link.Goals as goal
 
-pub write_record-requires : goal.write_record-requires
-write_record-requires c =
-    let s = c.args.self.now in
-    let i = c.args.grant.row in
-    let some : 0 < get_or (homes_of s) i 0 = omega (arith, c.requires.granted) in
-    let inside = chunk_inside s i some in
-    let page = page_within s i some in
-    let size = size_of_class s i c.args.grant.class Granted c.requires.granted in
-    omega (arith, c.requires.fits, c.requires.memory, c.start-at.ensures)
-
-pub overflow_cast-key : goal.overflow_cast-key
-overflow_cast-key c =
-    let s = c.args.self.now in
-    let i = c.args.grant.row in
-    let inside = chunk_inside s i (omega (arith, c.requires.granted)) in
-    let size = size_of_class s i c.args.grant.class Granted c.requires.granted in
-    omega (arith, c.requires.fits)
-
-pub overflow_cast-block : goal.overflow_cast-block
-overflow_cast-block c =
-    let s = c.args.self.now in
-    let i = c.args.grant.row in
-    let inside = chunk_inside s i (omega (arith, c.requires.granted)) in
-    let size = size_of_class s i c.args.grant.class Granted c.requires.granted in
-    omega (arith, c.requires.fits)
-
-pub describe-requires : goal.describe-requires
-describe-requires c = record {
-  within = listed_within c.args.self.now c.args.grant.row (omega (arith, c.requires.granted));
-  fits = λ class held. absurd (omega (arith, c.requires.granted));
-}
-
-pub shift-requires : goal.shift-requires
-shift-requires c =
+pub shift-requires-clause-fits : goal.shift-requires-clause-fits
+shift-requires-clause-fits c = λ _.
     let s = c.args.self.now in
     let m = c.describe.new.self in
     let i = c.args.grant.row in
-    let class = c.args.grant.class in
-    let key = c.args.key.now in
-    let block = c.args.block.now in
+    let key = length c.args.key.now in
+    let block = length c.args.block.now in
     let told = c.describe.ensures in
     let within = listed_within s i (omega (arith, c.requires.granted)) in
-    record {
-      home = ap (λ hs. get_or hs i 0) told.homes ∙ c.requires.granted;
-      fits = λ _.
-          let a = span_sum (rows_of m) i in
-          let b = key_len_there (rows_of s) (rows_of m) i (length key) (length block) c.args.tag told.described within in
-          let d = data_len_there (rows_of s) (rows_of m) i (length key) (length block) c.args.tag told.described within in
-          let e = ap (λ l. get_or l.sizes class 0) told.layout in
-          omega (arith, c.requires.fits);
-    }
+    let a = span_sum (rows_of m) i in
+    let b = key_len_there (rows_of s) (rows_of m) i key block c.args.tag told.described within in
+    let d = data_len_there (rows_of s) (rows_of m) i key block c.args.tag told.described within in
+    let e = ap (λ l. get_or l.sizes c.args.grant.class 0) told.layout in
+    omega (arith, c.requires.fits)
 
 pub returns : goal.returns
 returns c =

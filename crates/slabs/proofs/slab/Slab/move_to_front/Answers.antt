@@ -2,27 +2,17 @@ use Rattle.std.proofs.Common.{◌≡◌, ℕ, List, length, get_or, vec_items, s
 use Rattle.std.specs.Vec.{with_items}
 use mathlib.Core.Logic.{∥∥₁_map}
 use lib.ListN.{length-map}
-use Rattle.slabs.specs.declared.class.Stand.TheVariants.{Held}
-use Rattle.slabs.specs.Rows.{homes, rest}
+use Rattle.slabs.specs.Rows.{rest}
 use Rattle.slabs.specs.Lists.{Family, held_of, to_front}
 use Rattle.slabs.specs.Orders.{InOrder}
 use Rattle.slabs.specs.Slabs.{homes_of, layout}
 use Rattle.slabs.proofs.Cuts.{cut_same}
 use Rattle.slabs.proofs.Lending.{lists_back, homes_back, rests_back}
-use Rattle.slabs.proofs.Sounds.{some_lists, row_within, order_front}
+use Rattle.slabs.proofs.Sounds.{some_lists, order_front}
 use Rattle.slabs.proofs.slab.Slab.move_to_front.Goals as goal
 
-pub refresh-requires : goal.refresh-requires
-refresh-requires c =
-    let s = c.args.self.now in
-    let is : c.deref_mut.result.now ≡ vec_items s.rows = c.deref_mut.ensures.value in
-    let home : get_or (homes_of s) c.args.i 0 ≡ held_of c.class_of-class.result = c.requires ∙ ap held_of (sym c.class_of-class.ensures.value) in
-    record {
-      class = c.class_of-class.ensures.few;
-      within = omega (arith, ap length is, row_within s c.args.i c.class_of-class.result Held home);
-      lists = subst (λ rows. ∥ ((ls : ℕ → List ℕ) × Family s.classes.all rows ls) ∥₁) (sym is) (some_lists s);
-      home = ap (λ rows. get_or (homes rows) c.args.i 0) is ∙ home;
-    }
+pub refresh-requires-clause-lists : goal.refresh-requires-clause-lists
+refresh-requires-clause-lists c = subst (λ rows. ∥ ((ls : ℕ → List ℕ) × Family c.args.self.now.classes.all rows ls) ∥₁) (sym c.deref_mut.ensures.value) (some_lists c.args.self.now)
 
 pub invariant_of-self : goal.invariant_of-self
 invariant_of-self c =

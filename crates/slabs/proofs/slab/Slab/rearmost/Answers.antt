@@ -1,7 +1,7 @@
-use Rattle.std.proofs.Common.{sym, ap, ◌∙◌, arith}
+use Rattle.std.proofs.Common.{map, sym, ap, ◌∙◌, arith}
 use Rattle.recency.specs.Lists.{rearmost}
 use Rattle.slabs.specs.declared.class.Stand.TheVariants.{Held}
-use Rattle.slabs.specs.Classes.{no_class}
+use Rattle.slabs.specs.Classes.{no_class, at_stand}
 use Rattle.slabs.specs.Lists.{held_of}
 use Rattle.slabs.specs.Slabs.{rows_of}
 use Rattle.slabs.proofs.Ends.{beyond, classes_long}
@@ -15,4 +15,5 @@ returns c = λ ls f.
     let s = c.args.self.now in
     let there = c.in_ok-get.ensures.lookup.3 in
     let read = f.reads c.args.class Held (omega (arith, classes_long s)) in
-    c.last.ensures (rows_of s) (ls (held_of c.args.class)) (rw (there.1 no_class) read)
+    let same = c.at.ensures ∙ ap (λ x. at_stand x Held) (there.1 no_class) in
+    c.back.ensures (map (λ row. row.next) (rows_of s)) (map (λ row. row.prev) (rows_of s)) (ls (held_of c.args.class)) (rw same read)

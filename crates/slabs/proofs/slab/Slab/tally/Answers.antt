@@ -1,39 +1,42 @@
-use Rattle.std.proofs.Common.{◌*◌, ◌≤◌, length, get_or, sym, ap, ◌∙◌, zero-mul, arith}
+use Rattle.std.proofs.Common.{◌*◌, ◌<◌, ◌≤◌, length, get_or, sym, ap, ◌∙◌, arith}
 use Rattle.std.proofs.lemmas.List.{get_or-map}
+use Rattle.slabs.specs.declared.class.Stand.{Stand}
 use Rattle.slabs.specs.declared.class.Stand.TheVariants.{Free, Granted, Held}
-use Rattle.slabs.specs.Classes.{no_class}
+use Rattle.slabs.specs.Classes.{no_class, at_stand}
 use Rattle.slabs.specs.Slabs.{layout}
-use Rattle.slabs.proofs.Ends.{beyond, class_within}
-use Rattle.slabs.proofs.Pages.{no_share_past, counts_whole}
+use Rattle.slabs.proofs.Ends.{beyond, classes_long}
+use Rattle.slabs.proofs.Pages.{counts_whole}
 use Rattle.slabs.proofs.slab.Slab.tally.Goals as goal
 
-pub returns-then-class-ge-CLASSES : goal.returns-then-class-ge-CLASSES
-returns-then-class-ge-CLASSES c =
+pub returns-in_default-clause-counts : goal.returns-in_default-clause-counts
+returns-in_default-clause-counts c = λ ls f.
     let s = c.args.self.now in
     let class = c.args.class in
-    let far : 33 ≤ class = omega arith in
-    record {
-      pages = sym (no_share_past s class far);
-      counts = λ ls f. (
-        sym (ap length (beyond s ls f Free class far)),
-        sym (ap length (beyond s ls f Granted class far)),
-        sym (ap length (beyond s ls f Held class far)),
-      );
-      whole = sym (zero-mul (get_or (layout s).chunks class 0));
-    }
+    let past = c.in_default.ensures.lookup.3 in
+    let far : 33 ≤ class = omega (arith, classes_long s) in
+    let zero = c.default.ensures in (
+      zero.1.0 ∙ sym (ap length (beyond s ls f Free class far)),
+      zero.1.1.0 ∙ sym (ap length (beyond s ls f Granted class far)),
+      zero.1.1.1 ∙ sym (ap length (beyond s ls f Held class far)),
+    )
 
-pub returns : goal.returns
-returns c =
+pub returns-clause-counts : goal.returns-clause-counts
+returns-clause-counts c = λ ls f.
     let s = c.args.self.now in
     let class = c.args.class in
-    let few = c.if-class-ge-CLASSES.false in
-    let share = get_or-map (λ x. x.pages) s.classes.all class no_class 0 (class_within s class few) in
-    let a = c.count.ensures in
-    let b = c.count-2.ensures in
-    let d = c.count-3.ensures in
-    let product = ap (λ x. x * get_or (layout s).chunks class 0) share in
-    record {
-      pages = sym share;
-      counts = λ ls f. (a ∙ f.counted class Free few, b ∙ f.counted class Granted few, d ∙ f.counted class Held few);
-      whole = omega (arith, counts_whole s class few);
-    }
+    let there = c.in-Some.ensures.lookup.3 in
+    let few : class < 33 = omega (arith, classes_long s) in
+    let of = λ (stand : Stand). ap (λ x. (at_stand x stand).count) (there.1 no_class) ∙ f.counted class stand few in
+    (ap (λ x. x.count) c.at.ensures ∙ of Free, ap (λ x. x.count) c.at-2.ensures ∙ of Granted, ap (λ x. x.count) c.at-3.ensures ∙ of Held)
+
+pub returns-clause-whole : goal.returns-clause-whole
+returns-clause-whole c =
+    let s = c.args.self.now in
+    let class = c.args.class in
+    let there = c.in-Some.ensures.lookup.3 in
+    let few : class < 33 = omega (arith, classes_long s) in
+    let of = λ (stand : Stand). ap (λ x. (at_stand x stand).count) (there.1 no_class) in
+    let share = get_or-map (λ x. x.pages) s.classes.all class no_class 0 there.0 in
+    let pages = ap (λ x. x.pages) (there.1 no_class) in
+    let product = ap (λ x. x * get_or (layout s).chunks class 0) (pages ∙ sym share) in
+    omega (arith, counts_whole s class few, ap (λ x. x.count) c.at.ensures ∙ of Free, ap (λ x. x.count) c.at-2.ensures ∙ of Granted, ap (λ x. x.count) c.at-3.ensures ∙ of Held)
