@@ -16,7 +16,8 @@ mod telling;
 use chained::Chains;
 use slabs::Slab;
 
-/// Chunks and their rows, and the hash table by which a row is found.
+/// Chunks and their rows, and the hash table by which a row is found. A record is known by the number of its row, since rows
+/// lie in memory of a fixed size that the owner hands over.
 #[derive(Drop)]
 pub struct Records {
     slab: Slab,

@@ -41,6 +41,7 @@ impl Counts {
     pub(crate) fn left(&mut self, why: Why)
         ensures { Leaves self.old → counts_shown self.new ≡ count_left (why_of why) (counts_shown self.old) }
     {
+        // an array by reason would hide the counts' names, which stats tells
         match why {
             Why::Replaced => self.replaced = one_more(self.replaced, self.linked),
             Why::Deleted => self.deleted = one_more(self.deleted, self.linked),

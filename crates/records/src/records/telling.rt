@@ -24,9 +24,7 @@ impl Records {
     {
         self.slab.set_tag(i, tag);
     }
-}
 
-impl Records {
     /// Brings a record to the front of its class at this second.
     pub fn bring_to_front(&mut self, i: u32, second: u32)
         requires held { Holds self.old.slab i }
@@ -44,9 +42,7 @@ impl Records {
         );
         self.slab.move_to_front(i);
     }
-}
 
-impl Records {
     /// Sets the expiry of a record where it stands.
     pub fn set_expiry(&mut self, i: u32, expiry: Option<u64>)
         requires held { Holds self.old.slab i }
