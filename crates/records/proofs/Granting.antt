@@ -1,6 +1,5 @@
 -- What is shown when chunks are granted and returned: the same records. Assumes nothing.
 use Rattle.std.proofs.Common.{◌≡◌, ℕ, ◌+◌, ◌*◌, ◌<◌, ◌≤◌, ltb, List, [], ◌∷◌, map, length, get_or, is_some, IfSome, Some, None, Option, sym, refl, ap, ◌∙◌, subst, ⊎_elim, arith, MatchOption}
-use mathlib.Core.Logic.{∥∥₁_elim, ∥∥₁_map, ∥∥₁_prop}
 use lib.ListN.{length-map}
 use Rattle.std.specs.Option.{option_map}
 use Rattle.std.proofs.lemmas.List.{get_or-set_same, get_or-set_other}
@@ -26,12 +25,11 @@ use Rattle.model.specs.Store as model
 use Rattle.model.specs.Store.{Class}
 use Rattle.model.specs.Sound.{Numbered}
 use Rattle.records.specs.declared.records.Records.{Records}
-use Rattle.records.specs.Standing.{Standing}
 use Rattle.records.specs.Kept.{NoGrant, OnlyGrant}
 use Rattle.records.specs.Reading.{record_at}
 use Rattle.records.specs.Showing.{Cut, ShowsRecords}
 use Rattle.records.proofs.Chaining.{within}
-use Rattle.records.proofs.Indexing.{with_slab, reindexed_by}
+use Rattle.records.proofs.Indexing.{IndexesAs, unchanged, reindexed_by}
 use Rattle.records.proofs.Maps.{map_same}
 use Rattle.records.proofs.Turns.{told, same_records}
 
@@ -111,26 +109,26 @@ module _ (setup : Setup) (s : Slab) (memory : List ℕ) (ks : List Class) (sh : 
       ∙ ap (λ c. get_or (layout s).shares class 0 * c) (sym (sh.cut.chunks class num))
 
 -- a class whose chunks are all free or hold a record has room where a chunk is free
-module _ (setup : Setup) (s : Slab) (sound : ∥ Sound s ∥₁) (memory : List ℕ) (ks : List Class) (sh : ShowsRecords setup s memory ks) (none : NoGrant s) (class : ℕ) (num : Numbered setup class) where
+module _ (setup : Setup) (s : Slab) (memory : List ℕ) (ks : List Class) (sh : ShowsRecords setup s memory ks) (none : NoGrant s) (class : ℕ) (num : Numbered setup class) where
   none_granted : length (sh.lists (granted_of class)) ≡ 0
   none_granted =
-      ap length (none_in (sh.lists (granted_of class)) (λ k. let h = absent s.classes (rows_of s) sh.lists sh.listed k (granted_of class) (omega arith) (none k class) in omega arith))
+      ap length (none_in (sh.lists (granted_of class)) (λ k. let h = absent s.classes.all (rows_of s) sh.lists sh.listed k (granted_of class) (omega arith) (none k class) in omega arith))
 
   -- every chunk of the class is free or holds a record
   pub whole : length (sh.lists (free_of class)) + length (sh.lists (held_of class)) ≡ get_or (layout s).shares class 0 * get_or (layout s).chunks class 0
   whole =
       ⊎_elim
       (λ (few : class < 33).
-      let all = counts_whole s sound class few in
+      let all = counts_whole s class few in
       let f = sh.listed.counted class Free few in
       let g = sh.listed.counted class Granted few in
       let h = sh.listed.counted class Held few in
       let n = none_granted in
       omega arith)
       (λ (past : 33 ≤ class).
-      let f = ap length (beyond s sound sh.lists sh.listed Free class past) in
-      let h = ap length (beyond s sound sh.lists sh.listed Held class past) in
-      let none = ap (λ n. get_or (layout s).shares class 0 * n) (classes_few s sound class past) in
+      let f = ap length (beyond s sh.lists sh.listed Free class past) in
+      let h = ap length (beyond s sh.lists sh.listed Held class past) in
+      let none = ap (λ n. get_or (layout s).shares class 0 * n) (classes_few s class past) in
       omega arith)
       (cases_lt class 33)
 
@@ -147,25 +145,22 @@ module _ (setup : Setup) (s : Slab) (sound : ∥ Sound s ∥₁) (memory : List 
 -- A CHUNK IS TAKEN
 
 -- the chunk at the front of the free ones is granted, if there is one
-module _ (t : Records) (standing : ∥ Standing t ∥₁) (new : Slab) (sound : ∥ Sound new ∥₁) (class : ℕ) (rests_are : rests (rows_of new) ≡ rests (rows_of t.slab)) where
+module _ (t : Records) (new : Slab) (class : ℕ) (rests_are : rests (rows_of new) ≡ rests (rows_of t.slab)) where
   abbrev Found : Option Grant → Type 0
   Found r = (ls : ℕ → List ℕ) → Lists t.slab ls → option_map (λ grant. grant.row) r ≡ foremost (ls (free_of class))
 
-  was_sound : ∥ Sound t.slab ∥₁
-  was_sound = ∥∥₁_map standing (λ st. st.sound)
-
   module _ (grant : Grant) (found : Found (Some grant)) (taken : Taken t.slab new class grant) where
     was_free : get_or (homes_of t.slab) grant.row 0 ≡ free_of class
-    was_free = names t.slab was_sound grant.row (free_of class) (omega arith) (λ ls f. foremost_in (ls (free_of class)) grant.row (found ls f))
+    was_free = names t.slab grant.row (free_of class) (omega arith) (λ ls f. foremost_in (ls (free_of class)) grant.row (found ls f))
 
     in_range : grant.row < length (homes_of t.slab)
     in_range = within (homes_of t.slab) grant.row (rw was_free (omega arith))
 
-    took_standing : ∥ Standing (with_slab t new) ∥₁
-    took_standing =
+    took_indexed : IndexesAs t new
+    took_indexed =
         let before = held_before t.slab new grant.row _ _ taken.shifted was_free in_range (free_not class) (granted_not class) in
         let after = held_after t.slab new grant.row _ _ taken.shifted was_free in_range (free_not class) (granted_not class) in
-        ∥∥₁_elim sound ∥∥₁_prop (λ z. ∥∥₁_map standing (λ st. record { sound = z; indexed = reindexed_by t new rests_are before after st.indexed }))
+        reindexed_by t new rests_are before after
 
     took_only : NoGrant t.slab → OnlyGrant new grant
     took_only none i to h =
@@ -180,13 +175,13 @@ module _ (t : Records) (standing : ∥ Standing t ∥₁) (new : Slab) (sound : 
     took_shown : (setup : Setup) (memory : List ℕ) (ks : List Class) → ShowsRecords setup t.slab memory ks → ShowsRecords setup new memory ks
     took_shown = shows_shifted t.slab new grant.row _ _ taken.shifted was_free in_range (free_not class) (granted_not class) (λ e. omega arith) rests_are
 
-  pub take_standing : (r : Option Grant) → Found r → MatchOption r (new ≡ t.slab) (λ grant. Taken t.slab new class grant) → ∥ Standing (with_slab t new) ∥₁
-  take_standing None found same = subst (λ x. ∥ Standing (with_slab t x) ∥₁) (sym same) standing
-  take_standing (Some grant) found taken = took_standing grant found taken
+  pub take_indexed : (r : Option Grant) → Found r → MatchOption r (new ≡ t.slab) (λ grant. Taken t.slab new class grant) → IndexesAs t new
+  take_indexed None found same = subst (IndexesAs t) (sym same) t.indexed
+  take_indexed (Some grant) found taken = took_indexed grant found taken
 
-  pub take_taken : (r : Option Grant) → MatchOption r (new ≡ t.slab) (λ grant. Taken t.slab new class grant) → MatchOption r (with_slab t new ≡ t) (λ grant. (grant.class ≡ class) × slab.Granted new grant)
-  take_taken None same = ap (with_slab t) same
-  take_taken (Some grant) taken = (taken.of, taken.granted)
+  pub take_taken : (r : Option Grant) (indexed : IndexesAs t new) → MatchOption r (new ≡ t.slab) (λ grant. Taken t.slab new class grant) → MatchOption r (record { slab = new; table = t.table; heads = t.heads; indexed = indexed } ≡ t) (λ grant. (grant.class ≡ class) × slab.Granted new grant)
+  take_taken None indexed same = unchanged t new same indexed
+  take_taken (Some grant) indexed taken = (taken.of, taken.granted)
 
   pub take_layout : (r : Option Grant) → MatchOption r (new ≡ t.slab) (λ grant. Taken t.slab new class grant) → layout new ≡ layout t.slab
   take_layout None same = ap layout same
@@ -205,4 +200,4 @@ module _ (t : Records) (standing : ∥ Standing t ∥₁) (new : Slab) (sound : 
   some_mapped (Some grant) = refl
 
   pub take_room : (r : Option Grant) → Found r → (setup : Setup) (memory : List ℕ) (ks : List Class) → ShowsRecords setup t.slab memory ks → NoGrant t.slab → Numbered setup class → is_some r ≡ ltb (length (model.class_at class ks).records) (chunks setup class (model.class_at class ks).pages)
-  take_room r found setup memory ks sh none num = some_mapped r ∙ ap is_some (found sh.lists sh.listed) ∙ room_is setup t.slab was_sound memory ks sh none class num
+  take_room r found setup memory ks sh none num = some_mapped r ∙ ap is_some (found sh.lists sh.listed) ∙ room_is setup t.slab memory ks sh none class num

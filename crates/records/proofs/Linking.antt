@@ -1,8 +1,6 @@
 -- What is shown when a granted chunk is filled: one record more, at the front of its class. Assumes nothing.
-use Rattle.std.proofs.Common.{◌≡◌, ℕ, ◌<◌, ◌≤◌, cond, eqb, List, [], ◌∷◌, map, length, get_or, set, None, vec_items, Vec, sym, refl, ap, ◌∙◌, subst, ⊎_elim, arith}
-use mathlib.Core.Logic.{∥∥₁_map}
+use Rattle.std.proofs.Common.{◌≡◌, ℕ, ◌<◌, ◌≤◌, cond, eqb, List, [], ◌∷◌, map, length, get_or, set, None, vec_items, sym, refl, ap, ◌∙◌, subst, ⊎_elim, arith}
 use lib.ListN.{length-map}
-use Rattle.std.specs.declared.alloc.Global.{Global}
 use Rattle.std.specs.List.{flat_map}
 use Rattle.std.proofs.lemmas.List.{get_or-set_same, get_or-set_other, map-set}
 use Rattle.std.proofs.lemmas.Bool.{cases_eq, eq-eqb, ne_eqb, cond-true, cond-false}
@@ -12,14 +10,13 @@ use Rattle.chained.specs.Chains as chained
 use Rattle.chained.specs.Fnv.{fnv}
 use Rattle.chained.proofs.Sound.{holds_as, rehashed}
 use Rattle.slabs.specs.declared.class.Stand.TheVariants.{Free, Granted, Held}
-use Rattle.slabs.specs.declared.row.Row.{Row}
 use Rattle.slabs.specs.declared.row.Tag.{Tag}
 use Rattle.slabs.specs.declared.slab.Slab.{Slab}
 use Rattle.slabs.specs.Rows.{blank}
-use Rattle.slabs.specs.Lists.{held_of, granted_of, shift}
+use Rattle.slabs.specs.Lists.{Family, held_of, granted_of, shift}
 use Rattle.slabs.specs.Layouts.{class_at}
 use Rattle.slabs.specs.Records.{Described, key_of, data_of, tags}
-use Rattle.slabs.specs.Slabs.{Sound, Shifted, Holds, rows_of, homes_of, layout}
+use Rattle.slabs.specs.Slabs.{Shifted, Holds, rows_of, homes_of, layout}
 use Rattle.slabs.proofs.Ends.{class_is, owners_few}
 use Rattle.slabs.proofs.Families.{present}
 use Rattle.slabs.proofs.Pages.{counts_whole}
@@ -32,11 +29,11 @@ use Rattle.model.specs.Sound.{Numbered}
 use Rattle.model.proofs.Held.{On, first_none}
 use Rattle.model.proofs.Sound.{sound_insert}
 use Rattle.records.specs.declared.records.Records.{Records}
-use Rattle.records.specs.Standing.{Standing, Indexed}
+use Rattle.records.specs.Standing.{Indexed}
 use Rattle.records.specs.Kept.{GrantedTo}
 use Rattle.records.specs.Reading.{record_at, brought, ShowsClasses}
 use Rattle.records.specs.Showing.{Cut, ShowsRecords}
-use Rattle.records.proofs.Chaining.{unchained, with_rows, homes_same, lists_same, within}
+use Rattle.records.proofs.Chaining.{unchained, homes_same, family_same, within}
 use Rattle.records.proofs.Granting.{granted_not, home_there, home_off, records_long, chunks_all}
 use Rattle.records.proofs.Leaving.{alone, names_on}
 use Rattle.records.proofs.Telling.{by_columns, hashes_of}
@@ -47,12 +44,9 @@ pub record_told : (s : Slab) (memory : List ℕ) (i : ℕ) → record_at (layout
 record_told s memory i = by_columns (layout s) (rows_of s) memory i
 
 -- the row i, which was granted, was filled, and then its chain was linked
-module _ (t : Records) (standing : ∥ Standing t ∥₁) (i class : ℕ) (granted : get_or (homes_of t.slab) i 0 ≡ granted_of class) (u : Slab) (went : Shifted t.slab u i (granted_of class) (held_of class)) (k b : ℕ) (tag : Tag) (told_of : Described (rows_of t.slab) (rows_of u) i k b tag) where
+module _ (t : Records) (i class : ℕ) (granted : get_or (homes_of t.slab) i 0 ≡ granted_of class) (u : Slab) (went : Shifted t.slab u i (granted_of class) (held_of class)) (k b : ℕ) (tag : Tag) (told_of : Described (rows_of t.slab) (rows_of u) i k b tag) where
   abbrev s : Slab
   s = t.slab
-
-  was_sound : ∥ Sound s ∥₁
-  was_sound = ∥∥₁_map standing (λ st. st.sound)
 
   pub in_range : i < length (homes_of s)
   in_range = within (homes_of s) i (rw granted (omega arith))
@@ -64,7 +58,7 @@ module _ (t : Records) (standing : ∥ Standing t ∥₁) (i class : ℕ) (grant
   row_still = omega (arith, row_there, ap length told_of.chains_stay, length-map (rows_of u) (λ row. row.chain), length-map (rows_of s) (λ row. row.chain))
 
   was_of : class_at (layout s) i ≡ class
-  was_of = class_is s was_sound i class Granted granted
+  was_of = class_is s i class Granted granted
 
   -- the table does not see the hash of a row that it does not hold
   pub outside : (ix : Indexed t) → rows.count i ix.ids ≡ 0
@@ -80,12 +74,12 @@ module _ (t : Records) (standing : ∥ Standing t ∥₁) (i class : ℕ) (grant
       holds_as (chained.size t.table) ix.ids refl told_of.chains_stay hashes_set
       (rehashed (chained.size t.table) (vec_items t.heads) (map (λ row. row.chain) (rows_of s)) (map (λ row. row.tag.hash) (rows_of s)) ix.ids i tag.hash (outside ix) ix.kept)
 
-  module _ (v : Vec Row Global) (stays : map unchained (vec_items v) ≡ map unchained (rows_of u)) where
-    abbrev new : Slab
-    new = with_rows u v
-
+  module _ (new : Slab) (stays : map unchained (rows_of new) ≡ map unchained (rows_of u)) (classes_stay : new.classes ≡ u.classes) (layout_stays : layout new ≡ layout u) where
     same_homes : homes_of new ≡ homes_of u
-    same_homes = homes_same u new stays refl
+    same_homes = homes_same (rows_of u) (rows_of new) stays
+
+    layout_is : layout new ≡ layout s
+    layout_is = layout_stays ∙ went.layout
 
     new_there : get_or (homes_of new) i 0 ≡ held_of class
     new_there = ap (λ h. get_or h i 0) same_homes ∙ home_there s u i _ _ went granted in_range
@@ -94,7 +88,7 @@ module _ (t : Records) (standing : ∥ Standing t ∥₁) (i class : ℕ) (grant
     new_off n ne = ap (λ h. get_or h n 0) same_homes ∙ home_off s u i _ _ went granted in_range n ne
 
     new_class : (n : ℕ) → class_at (layout new) n ≡ class_at (layout s) n
-    new_class n = ap (λ l. class_at l n) went.layout
+    new_class n = ap (λ l. class_at l n) layout_is
 
     new_holds : Holds new i
     new_holds = new_there ∙ ap held_of (sym (new_class i ∙ was_of))
@@ -157,17 +151,17 @@ module _ (t : Records) (standing : ∥ Standing t ∥₁) (i class : ℕ) (grant
       on_holds : (c n : ℕ) → On n (sh.lists (held_of c)) → Holds s n
       on_holds c n o =
           let home = names_on s sh.lists sh.listed n (held_of c) (omega arith) o in
-          home ∙ ap held_of (sym (class_is s was_sound n c Held home))
+          home ∙ ap held_of (sym (class_is s n c Held home))
 
       -- the granted chunk is one that no record of the class takes
       room : length (model.class_at class ks).records < chunks setup class (model.class_at class ks).pages
       room =
-          let few : class < 33 = subst (λ c. c < 33) was_of (owners_few s was_sound _) in
-          let all = counts_whole s was_sound class few in
+          let few : class < 33 = subst (λ c. c < 33) was_of (owners_few s _) in
+          let all = counts_whole s class few in
           let f = sh.listed.counted class Free few in
           let g = sh.listed.counted class Granted few in
           let h = sh.listed.counted class Held few in
-          let one = present s.classes (rows_of s) sh.lists sh.listed i (granted_of class) (omega arith) granted in
+          let one = present s.classes.all (rows_of s) sh.lists sh.listed i (granted_of class) (omega arith) granted in
           let some = some_long (sh.lists (granted_of class)) one in
           omega (arith, records_long setup s memory ks sh class num, chunks_all setup s memory ks sh class num)
         where
@@ -180,11 +174,11 @@ module _ (t : Records) (standing : ∥ Standing t ∥₁) (i class : ℕ) (grant
           let r = brought key block tag in
           record {
             kept = subst (λ c. Numbered setup c → length (model.class_at c ks).records < chunks setup c (model.class_at c ks).pages → kept.Sound setup (model.with_records c (r ∷ (model.class_at c ks).records) ks)) home (λ n m. sound_insert setup ks sh.kept r n (first_none (has_key key) (flat_map model.records_of ks) free) m) num room;
-            cut = subst (λ l. Cut setup l) (sym went.layout) sh.cut;
+            cut = subst (λ l. Cut setup l) (sym layout_is) sh.cut;
             classed = λ n h. ⊎_elim (λ e. subst (Numbered setup) (sym (ap (class_at (layout new)) e ∙ new_class i ∙ was_of)) num) (λ ne. subst (Numbered setup) (sym (new_class n)) (sh.classed n (held_before n ne h))) (cases_eq n i);
             lists = shift i (granted_of class) (held_of class) sh.lists;
-            listed = lists_same u new stays refl (shift i (granted_of class) (held_of class) sh.lists) (went.lists sh.lists sh.listed);
-            shown = subst (λ l. ShowsClasses setup l (rows_of new) memory' (shift i (granted_of class) (held_of class) sh.lists) (model.with_records class (r ∷ (model.class_at class ks).records) ks)) (sym went.layout)
+            listed = subst (λ cs. Family cs (rows_of new) (shift i (granted_of class) (held_of class) sh.lists)) (ap (λ cs. cs.all) (sym classes_stay)) (family_same (rows_of u) (rows_of new) stays u.classes.all (shift i (granted_of class) (held_of class) sh.lists) (went.lists sh.lists sh.listed));
+            shown = subst (λ l. ShowsClasses setup l (rows_of new) memory' (shift i (granted_of class) (held_of class) sh.lists) (model.with_records class (r ∷ (model.class_at class ks).records) ks)) (sym layout_is)
                 (shows_linked setup ks sh.kept class num (layout s) (rows_of s) memory sh.lists (alone s sh.lists sh.listed) sh.shown i r (rows_of new) memory' here_is (λ c n o. other_is n (on_holds c n o)));
             hashed = hashed;
           }
@@ -193,7 +187,7 @@ module _ (t : Records) (standing : ∥ Standing t ∥₁) (i class : ℕ) (grant
           new_hash n = ap (λ c. get_or c n 0) (column_of_rest unchained (λ row. row.tag.hash) (λ _. refl) (rows_of u) (rows_of new) stays ∙ hashes_set)
 
           by_new : (n : ℕ) → (record_at (layout s) (rows_of new) memory' n).key ≡ (record_at (layout new) (rows_of new) memory' n).key
-          by_new n = ap (λ l. (record_at l (rows_of new) memory' n).key) (sym went.layout)
+          by_new n = ap (λ l. (record_at l (rows_of new) memory' n).key) (sym layout_is)
 
           hashed : (n : ℕ) → Holds new n → get_or (map (λ row. row.tag.hash) (rows_of new)) n 0 ≡ fnv (record_at (layout new) (rows_of new) memory' n).key
           hashed n h =

@@ -1,7 +1,7 @@
 -- What is shown when a page is given to a class: the class has one page more. Assumes nothing.
 use Rattle.std.proofs.Common.{◌≡◌, ℕ, ◌+◌, ◌*◌, ◌/◌, ◌%◌, ◌<◌, ◌≤◌, Bool, true, false, cond, ◌&&◌, ltb, List, map, length, get_or, MatchBool, sym, refl, ap, ◌∙◌, subst, ⊎_elim, arith}
 use mathlib.Core.HLevel.{⊥_prop}
-use mathlib.Core.Logic.{∥∥₁_elim, ∥∥₁_map, ∥∥₁_prop}
+use mathlib.Core.Logic.{∥∥₁_elim}
 use lib.ListN.{length-map}
 use Rattle.std.proofs.lemmas.List.{get_or-set_same, get_or-set_other}
 use Rattle.std.proofs.lemmas.Bool.{cases_eq, cases_lt, ltb-true, lt-ltb, true≢false, and_parts}
@@ -11,7 +11,7 @@ use Rattle.slabs.specs.declared.slab.Slab.{Slab}
 use Rattle.slabs.specs.Rows.{blank, rest, rests}
 use Rattle.slabs.specs.Lists.{held_of, granted_of, free_of, stocked}
 use Rattle.slabs.specs.Layouts.{class_at}
-use Rattle.slabs.specs.Slabs.{Sound, PageGiven, Holds, rows_of, homes_of, layout}
+use Rattle.slabs.specs.Slabs.{PageGiven, Holds, rows_of, homes_of, layout}
 use Rattle.slabs.proofs.Pages.{classes_few, stock_within, stock_few}
 use Rattle.slabs.proofs.Placing.{home_chunk}
 use Rattle.slabs.proofs.Shifts.{stocked_off}
@@ -22,16 +22,15 @@ use Rattle.model.specs.Store.{Class}
 use Rattle.model.specs.Sound.{Numbered}
 use Rattle.model.proofs.Sound.{at_same, at_other, in_range, sound_page}
 use Rattle.records.specs.declared.records.Records.{Records}
-use Rattle.records.specs.Standing.{Standing}
 use Rattle.records.specs.Kept.{GrantedTo}
 use Rattle.records.specs.Reading.{record_of, record_at, shown_class, ShowsClasses}
 use Rattle.records.specs.Showing.{Cut, HasChunks, ShowsRecords}
-use Rattle.records.proofs.Indexing.{with_slab, reindexed_by}
+use Rattle.records.proofs.Indexing.{IndexesAs, unchanged, reindexed_by}
 use Rattle.records.proofs.Leaving.{names_on}
 use Rattle.records.proofs.Maps.{map_same}
 use Rattle.records.proofs.Turns.{told, same_records}
 
-module _ (t : Records) (standing : ∥ Standing t ∥₁) (new : Slab) (class : ℕ) (given : PageGiven t.slab new class) (rests_are : rests (rows_of new) ≡ rests (rows_of t.slab)) (some : 0 < get_or (layout t.slab).chunks class 0) (free : t.slab.given < t.slab.pages) where
+module _ (t : Records) (new : Slab) (class : ℕ) (given : PageGiven t.slab new class) (rests_are : rests (rows_of new) ≡ rests (rows_of t.slab)) (some : 0 < get_or (layout t.slab).chunks class 0) (free : t.slab.given < t.slab.pages) where
   abbrev s : Slab
   s = t.slab
 
@@ -41,16 +40,13 @@ module _ (t : Records) (standing : ∥ Standing t ∥₁) (new : Slab) (class : 
   abbrev n : ℕ
   n = get_or (layout s).chunks class 0
 
-  was_sound : ∥ Sound s ∥₁
-  was_sound = ∥∥₁_map standing (λ st. st.sound)
-
   few : class < 33
-  few = ⊎_elim (λ lt. lt) (λ past. absurd (omega (arith, classes_few s was_sound class past))) (cases_lt class 33)
+  few = ⊎_elim (λ lt. lt) (λ past. absurd (omega (arith, classes_few s class past))) (cases_lt class 33)
 
   -- a row that is in a list is of another page
   other_page : (k : ℕ) → 0 < get_or (homes_of s) k 0 → k / 85 ≡ s.given → ⊥
   other_page k listed at =
-      ∥∥₁_elim was_sound ⊥_prop (λ z.
+      ∥∥₁_elim s.ok ⊥_prop (λ z.
       let chunk = home_chunk (layout s) (homes_of s) z.placed k listed in
       let none : class_at (layout s) k ≡ 0 = ap (λ p. get_or s.owners p 0) at ∙ z.placed.unowned s.given (omega arith) in
       let empty = ap (λ c. get_or (layout s).chunks c 0) none ∙ z.placed.none in
@@ -58,7 +54,7 @@ module _ (t : Records) (standing : ∥ Standing t ∥₁) (new : Slab) (class : 
 
   home_other : (k : ℕ) → (k / 85 ≡ s.given → ⊥) → get_or (homes_of new) k 0 ≡ get_or (homes_of s) k 0
   home_other k ne =
-      let small = stock_few s was_sound class few some free in
+      let small = stock_few s class few some free in
       ap (λ h. get_or h k 0) given.homes
       ∙ ⊎_elim (λ below. filled_below first n (free_of class) (homes_of s) k below) (λ above. filled_above first n (free_of class) (homes_of s) k (⊎_elim (λ (inside : k < first + 85). absurd (ne (omega arith))) (λ past. omega arith) (cases_lt k (first + 85)))) (cases_lt k first)
 
@@ -73,7 +69,7 @@ module _ (t : Records) (standing : ∥ Standing t ∥₁) (new : Slab) (class : 
       absurd
       (⊎_elim
       (λ (inside : k < first + n).
-      let there = ap (λ x. get_or x k 0) given.homes ∙ filled_there first n (free_of class) (homes_of s) k (omega (arith, stock_within s was_sound class few some free, length-map (rows_of s) (λ row. row.home))) (omega arith) inside in
+      let there = ap (λ x. get_or x k 0) given.homes ∙ filled_there first n (free_of class) (homes_of s) k (omega (arith, stock_within s class few some free, length-map (rows_of s) (λ row. row.home))) (omega arith) inside in
       ne (sym is ∙ there))
       (λ (above : first + n ≤ k).
       let there = ap (λ x. get_or x k 0) given.homes ∙ filled_above first n (free_of class) (homes_of s) k above in
@@ -92,8 +88,8 @@ module _ (t : Records) (standing : ∥ Standing t ∥₁) (new : Slab) (class : 
       let off = other_page k (rw h (omega arith)) in
       home_other k off ∙ h ∙ ap held_of (sym (class_other k off))
 
-  pub page_standing : ∥ Sound new ∥₁ → ∥ Standing (with_slab t new) ∥₁
-  page_standing sound = ∥∥₁_elim sound ∥∥₁_prop (λ z. ∥∥₁_map standing (λ st. record { sound = z; indexed = reindexed_by t new rests_are page_before page_after st.indexed }))
+  pub page_indexed : IndexesAs t new
+  page_indexed = reindexed_by t new rests_are page_before page_after
 
   pub page_granted : (i to : ℕ) → GrantedTo new i to → GrantedTo s i to
   page_granted i to h = (kept_home i (granted_of to) (omega arith) (λ e. omega arith) h).0
@@ -117,7 +113,7 @@ module _ (t : Records) (standing : ∥ Standing t ∥₁) (new : Slab) (class : 
         ∙ map_same _ _ (sh.lists (held_of d)) (λ k o. read_same k (other_page k (rw (names_on s sh.lists sh.listed k (held_of d) (omega arith) o) (omega arith))))
 
     shares_long : class < length (layout s).shares
-    shares_long = ⊎_elim (λ lt. lt) (λ past. absurd (∥∥₁_elim was_sound ⊥_prop (λ z. let h = few in omega (arith, z.placed.classes.2)))) (cases_lt class (length (layout s).shares))
+    shares_long = ⊎_elim (λ lt. lt) (λ past. absurd (∥∥₁_elim s.ok ⊥_prop (λ z. let h = few in omega (arith, z.placed.classes.2)))) (cases_lt class (length (layout s).shares))
 
     shown_page : ShowsClasses setup (layout new) (rows_of new) memory lists' (model.with_page class ks)
     shown_page d low high =
@@ -154,7 +150,7 @@ module _ (t : Records) (standing : ∥ Standing t ∥₁) (new : Slab) (class : 
 
 -- BY THE ANSWER
 
-module _ (t : Records) (standing : ∥ Standing t ∥₁) (new : Slab) (class : ℕ) (rests_are : rests (rows_of new) ≡ rests (rows_of t.slab)) where
+module _ (t : Records) (new : Slab) (class : ℕ) (rests_are : rests (rows_of new) ≡ rests (rows_of t.slab)) where
   abbrev Answer : Bool → Type 0
   Answer r = r ≡ (ltb t.slab.given t.slab.pages && ltb 0 (get_or (layout t.slab).chunks class 0))
 
@@ -167,24 +163,24 @@ module _ (t : Records) (standing : ∥ Standing t ∥₁) (new : Slab) (class : 
   a_chunk : Answer true → 0 < get_or (layout t.slab).chunks class 0
   a_chunk e = ltb-true _ _ (and_parts _ _ (sym e)).1
 
-  pub gave_standing : (r : Bool) → Answer r → Gave r → ∥ Sound new ∥₁ → ∥ Standing (with_slab t new) ∥₁
-  gave_standing true e g sound = page_standing t standing new class g rests_are (a_chunk e) (a_page e) sound
-  gave_standing false e g sound = subst (λ x. ∥ Standing (with_slab t x) ∥₁) (sym g) standing
+  pub gave_indexed : (r : Bool) → Answer r → Gave r → IndexesAs t new
+  gave_indexed true e g = page_indexed t new class g rests_are (a_chunk e) (a_page e)
+  gave_indexed false e g = subst (IndexesAs t) (sym g) t.indexed
 
   pub gave_pages : (r : Bool) → Gave r → (new.pages ≡ t.slab.pages) × (new.given ≡ cond r (t.slab.given + 1) t.slab.given)
   gave_pages true g = (ap (λ l. l.pages) g.layout, ap (λ l. l.given) g.layout)
   gave_pages false g = (ap (λ s. s.pages) g, ap (λ s. s.given) g)
 
-  pub gave_same : (r : Bool) → Gave r → r ≡ false → with_slab t new ≡ t
-  gave_same true g e = absurd (true≢false e)
-  gave_same false g e = ap (with_slab t) g
+  pub gave_same : (indexed : IndexesAs t new) (r : Bool) → Gave r → r ≡ false → record { slab = new; table = t.table; heads = t.heads; indexed = indexed } ≡ t
+  gave_same indexed true g e = absurd (true≢false e)
+  gave_same indexed false g e = unchanged t new g indexed
 
   pub gave_granted : (r : Bool) → Answer r → Gave r → (i to : ℕ) → GrantedTo new i to → GrantedTo t.slab i to
-  gave_granted true e g i to h = page_granted t standing new class g rests_are (a_chunk e) (a_page e) i to h
+  gave_granted true e g i to h = page_granted t new class g rests_are (a_chunk e) (a_page e) i to h
   gave_granted false e g i to h = ap (λ s. get_or (homes_of s) i 0) (sym g) ∙ h
 
   pub gave_shown : (r : Bool) → Answer r → Gave r → (setup : Setup) (memory : List ℕ) (ks : List Class) → ShowsRecords setup t.slab memory ks → Numbered setup class → r ≡ true → ShowsRecords setup new memory (model.with_page class ks)
-  gave_shown true e g setup memory ks sh num _ = page_shown t standing new class g rests_are (a_chunk e) (a_page e) setup memory ks sh num
+  gave_shown true e g setup memory ks sh num _ = page_shown t new class g rests_are (a_chunk e) (a_page e) setup memory ks sh num
   gave_shown false e g setup memory ks sh num is = absurd (true≢false (sym is))
 
   and_true : (a b : Bool) → b ≡ true → (a && b) ≡ a

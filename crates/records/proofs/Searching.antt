@@ -26,12 +26,11 @@ use Rattle.model.proofs.Held.{key_is, same_key}
 use Rattle.records.specs.declared.records.Records.{Records}
 use Rattle.records.specs.Reading.{record_at}
 use Rattle.records.specs.Showing.{ShowsRecords}
-use Rattle.records.specs.Standing.{Standing}
 use Rattle.records.proofs.Finds.{found_held, found_none}
 use Rattle.records.proofs.Leaving.{names_on, on_named}
 use Rattle.records.proofs.Telling.{at_column}
 
-module _ (t : Records) (standing : ∥ Standing t ∥₁) (memory : List ℕ) (key : List ℕ) where
+module _ (t : Records) (memory : List ℕ) (key : List ℕ) where
   abbrev rows : List Row
   rows = rows_of t.slab
 
@@ -63,7 +62,7 @@ module _ (t : Records) (standing : ∥ Standing t ∥₁) (memory : List ℕ) (k
   searched_held None s = tt
   searched_held (Some i) s =
       ⊎_elim (λ e. e)
-      (λ ne. absurd (∥∥₁_elim standing ⊥_prop (λ st. ne (holds_counted i st.indexed.ids (st.indexed.exact i) (s st.indexed.ids st.indexed.kept).0))))
+      (λ ne. absurd (∥∥₁_elim t.indexed ⊥_prop (λ ix. ne (holds_counted i ix.ids (ix.exact i) (s ix.ids ix.kept).0))))
       (cases_eq (get_or (homes_of t.slab) i 0) (held_of (slab.class_at (layout t.slab) i)))
 
   module _ (setup : Setup) (ks : List Class) (sh : ShowsRecords setup t.slab memory ks) where
@@ -74,10 +73,10 @@ module _ (t : Records) (standing : ∥ Standing t ∥₁) (memory : List ℕ) (k
     searched None s =
         found_none setup ks sh.kept (layout t.slab) rows memory sh.lists sh.shown key
         (λ class i num on same.
-        ∥∥₁_elim standing ⊥_prop (λ st.
+        ∥∥₁_elim t.indexed ⊥_prop (λ ix.
         let home = names_on t.slab sh.lists sh.listed i (held_of class) (omega arith) on in
-        let h : Holds t.slab i = home ∙ ap held_of (sym (class_is t.slab ∣ st.sound ∣₁ i class Held home)) in
-        s st.indexed.ids st.indexed.kept i blank (counted_holds i st.indexed.ids (st.indexed.exact i) h) (row_hash i h) same))
+        let h : Holds t.slab i = home ∙ ap held_of (sym (class_is t.slab i class Held home)) in
+        s ix.ids ix.kept i blank (counted_holds i ix.ids (ix.exact i) h) (row_hash i h) same))
     searched (Some i) s = by (bytes_eq key (record_at (layout t.slab) rows memory i).key) refl
       where
         by : (b : Bool) → bytes_eq key (record_at (layout t.slab) rows memory i).key ≡ b → first (has_key key) (flat_map records_of ks) ≡ Some (record_at (layout t.slab) rows memory i)
@@ -87,4 +86,4 @@ module _ (t : Records) (standing : ∥ Standing t ∥₁) (memory : List ℕ) (k
             (found_held setup ks sh.kept (layout t.slab) rows memory sh.lists sh.shown (slab.class_at (layout t.slab) i) (sh.classed i h) i (on_named t.slab sh.lists sh.listed i _ (omega arith) h))
         by false e =
             let here = (record_at (layout t.slab) rows memory i).key in
-            absurd (∥∥₁_elim standing ⊥_prop (λ st. both_ways (bytes_eq key here) e (subst (λ k. bytes_eq k here ≡ true) ((s st.indexed.ids st.indexed.kept).1 blank) (same_key here))))
+            absurd (∥∥₁_elim t.indexed ⊥_prop (λ ix. both_ways (bytes_eq key here) e (subst (λ k. bytes_eq k here ≡ true) ((s ix.ids ix.kept).1 blank) (same_key here))))

@@ -1,3 +1,4 @@
+pub mod Indexes
 pub mod Reading
 pub mod Standing
 pub mod Showing

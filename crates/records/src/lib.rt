@@ -6,4 +6,5 @@ mod keys;
 mod records;
 
 pub use dead::is_dead;
+pub use keys::Key;
 pub use records::Records;

@@ -1,5 +1,9 @@
 //! The records with the memory that holds them, but for page memory, which is lent to each call that reads or writes bytes.
 
+ghost use Rattle.std.specs.Prelude.{vec_items};
+ghost use Rattle.slabs.specs.Slabs.{rows_of, layout};
+ghost use Rattle.records.specs.Indexes.{Indexes};
+
 mod finding;
 mod granting;
 mod growing;
@@ -12,10 +16,12 @@ mod telling;
 use chained::Chains;
 use slabs::Slab;
 
-/// Chunks and their rows, and the hash table by which a row is found.
+/// Chunks and their rows, and the hash table by which a row is found. A record is known by the number of its row, since rows
+/// lie in memory of a fixed size that the owner hands over.
 #[derive(Drop)]
 pub struct Records {
     slab: Slab,
     table: Chains,
     heads: Vec<u32>,
+    ghost indexed: { ∥ Indexes (rows_of slab) (layout slab) table (vec_items heads) ∥₁ },
 }

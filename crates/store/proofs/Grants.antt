@@ -1,6 +1,7 @@
 -- The ways to a free chunk, one by one. Assumes nothing.
-use Rattle.std.proofs.Common.{◌≡◌, ℕ, ◌+◌, ◌<◌, ◌≤◌, Bool, true, false, cond, ltb, List, IfSome, Some, None, Ok, vec_len, Option, sym, refl, ap, ◌∙◌, subst, arith, MatchOption}
-use Rattle.std.proofs.lemmas.Bool.{ltb-true, ltb-false, lt-ltb, le-ltb, cond-true, cond-false}
+use Rattle.std.proofs.Common.{◌≡◌, ℕ, ◌+◌, ◌<◌, ◌≤◌, Bool, true, false, cond, ltb, List, IfSome, is_some, Some, None, Ok, vec_len, Option, sym, refl, ap, ◌∙◌, subst, arith, MatchOption}
+use Rattle.std.proofs.lemmas.Bool.{ltb-true, ltb-false, lt-ltb, le-ltb, false≢true, cond-true, cond-false}
+use Rattle.std.specs.Option.{ok_or}
 use Rattle.plan.specs.declared.plan.Plan.{Plan}
 use Rattle.plan.specs.Plans.{plan_sizes}
 use Rattle.plan.specs.Classes.{Smallest, class_of, size_at}
@@ -18,6 +19,7 @@ use Rattle.records.specs.declared.records.Records.{Records}
 use Rattle.records.specs.Showing.{ShowsRecords}
 use Rattle.records.specs.Kept.{GrantedTo, NoGrant, OnlyGrant}
 use Rattle.store.specs.declared.store.RecordStore.{RecordStore}
+use Rattle.store.specs.declared.store.granting.NoRoom.TheVariants.{TooLarge, Full}
 use Rattle.store.specs.Showing.{Shows, Outstanding, counts_shown}
 use Rattle.store.specs.Granting.{Made, Comes, with_room, granting}
 use Rattle.store.proofs.Soon.{Soon, soon_page}
@@ -147,14 +149,16 @@ pub record Classed (setup : Setup) (need class : ℕ) : Type 0 where
   pub num : Numbered setup class
   pub fits : need ≤ size_at setup.sizes class
 
-pub classed : (setup : Setup) (sizes : List ℕ) → sizes ≡ setup.sizes → (need class : ℕ) → Some class ≡ class_of need sizes → Smallest need sizes class → Classed setup need class
-classed setup sizes same need class is small =
-    let here : Smallest need setup.sizes class = subst (λ x. Smallest need x class) same small in
-    record {
-      is = sym (subst (λ x. Some class ≡ class_of need x) same is);
+pub classed : (setup : Setup) (sizes : List ℕ) → sizes ≡ setup.sizes → (need class : ℕ) (r : Option ℕ) → r ≡ class_of need sizes → MatchOption r (4096 < need) (λ c. Smallest need sizes c) → ok_or r TooLarge ≡ Ok class → Classed setup need class
+classed setup sizes same need class None is small e = let z : ◌≡◌ {A = ℕ} 0 1 = cc in absurd (omega arith)
+classed setup sizes same need class (Some c) is small e =
+    let here : Smallest need setup.sizes c = subst (λ x. Smallest need x c) same small in
+    let of : c ≡ class = cc in
+    subst (Classed setup need) of (record {
+      is = sym (subst (λ x. Some c ≡ class_of need x) same is);
       num = record { low = here.numbered.0; high = here.numbered.1 };
       fits = here.fits;
-    }
+    })
 
 module _ {setup : Setup} {need class : ℕ} (of : Classed setup need class) (evicting : Bool) (now : ℕ) (s : Store) where
   -- a chunk of the class was granted
@@ -167,3 +171,8 @@ module _ {setup : Setup} {need class : ℕ} (of : Classed setup need class) (evi
 
   pub granted_later : false ≡ has_room setup class s → granting setup evicting now class s ≡ with_room setup evicting now class s
   granted_later full = cond-false (has_room setup class s) (Some s) (with_room setup evicting now class s) (sym full)
+
+  -- a chunk was taken, of a store in which there is one
+  pub comes_taken : {n : ℕ} {memory : List ℕ} (t : RecordStore) (P : Grant → Type 0) → ((grant : Grant) → P grant → grant.class ≡ class) → (r : Option Grant) → IfSome r P → (s' : Store) → is_some r ≡ true → granting setup evicting now class s ≡ Some s' → Shows setup n t memory r s' → Comes setup (λ c. granting setup evicting now c s) (class_of need setup.sizes) n t memory s (ok_or r Full)
+  comes_taken t P of_class None got s' some left sh = absurd (false≢true some)
+  comes_taken t P of_class (Some grant) got s' some left sh = comes_granted t grant (of_class grant got) s' left sh

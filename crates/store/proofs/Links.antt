@@ -24,7 +24,7 @@ use Rattle.store.specs.declared.store.linking.Fresh.{Fresh}
 use Rattle.store.specs.Counting.{gone}
 use Rattle.store.specs.Showing.{Shows, Tame, Outstanding, noting, room_of, new_record, counts_shown}
 use Rattle.store.proofs.Soon.{Soon, noted, noted_later, soon_noted, soon_set}
-use Rattle.store.proofs.Shown.{Beside, standing, has_second, held_are, shown_as, settled}
+use Rattle.store.proofs.Shown.{Beside, has_second, held_are, shown_as, settled}
 use Rattle.store.proofs.Grants.{none_outstanding}
 use Rattle.store.proofs.Finds.{none_left}
 
@@ -130,7 +130,7 @@ doubles_few entries limit g few = by (leb (2 * g.0) limit) refl
         ∙ sym (and_right (ltb (3 * g.0) (2 * entries)) _ (and_right (eqb g.1 0) _ e))
 
 few_slots : (t : RecordStore) → vec_len t.records.heads ≤ 16384
-few_slots t = ∥∥₁_elim (standing t) le_prop (λ st. omega (arith, st.indexed.kept.limit, t.records.heads.ok.0))
+few_slots t = ∥∥₁_elim t.records.indexed le_prop (λ ix. omega (arith, ix.kept.limit, t.records.heads.ok.0))
 
 pub shown_grown : {setup : Setup} {n : ℕ} {memory : List ℕ} {out : Option Grant} (t t' : RecordStore) (s : Store) → Shows setup n t memory out s → t'.records.slab ≡ t.records.slab → vec_len t'.records.heads ≡ vec_len t.records.heads → Beside t t'
     → (entries : ℕ) → entries ≡ min (t.counts.linked - gone t.counts) (2 ^ 32 - 1) → size t'.records.table ≡ grow_after entries (vec_len t.records.heads) (size t.records.table) → Shows setup n t' memory out (grow setup s)

@@ -1,7 +1,5 @@
 -- What is shown of a store as it is opened. Assumes nothing.
-use Rattle.std.proofs.Common.{◌≡◌, ℕ, zero, suc, ◌-◌, ◌*◌, ◌≤◌, List, [], length, get_or, replicate, None, vec_len, sym, refl, ap, ◌∙◌, subst, arith}
-use mathlib.Core.Logic.{∥∥₁_map}
-use lib.ListN.{length-replicate}
+use Rattle.std.proofs.Common.{◌≡◌, ℕ, zero, suc, ◌-◌, ◌*◌, ◌≤◌, List, [], length, get_or, replicate, None, vec_len, sym, refl, ap, subst, arith}
 use Rattle.std.specs.List.{AllByRecursion}
 use Rattle.plan.specs.Plans.{plan_sizes}
 use Rattle.chained.specs.Chains.{size}
@@ -12,16 +10,11 @@ use Rattle.model.specs.Setup.{Setup}
 use Rattle.model.specs.Calls.{empty}
 use Rattle.model.specs.Store.{bare}
 use Rattle.model.proofs.Accounts.{even_empty}
-use Rattle.records.specs.declared.records.Records.{Records}
 use Rattle.records.specs.Kept.{NoGrant}
 use Rattle.records.specs.Showing.{ShowsRecords}
-use Rattle.records.specs.Standing.{Standing}
 use Rattle.store.specs.declared.store.RecordStore.{RecordStore}
 use Rattle.store.specs.Counting.{no_counts}
 use Rattle.store.specs.Showing.{Shows, NotBefore, counts_shown}
-
-pub stands_opened : {records : Records} (soonest : List ℕ) (second : ℕ) → soonest ≡ replicate 33 second → ∥ Standing records ∥₁ → ∥ Standing records × (length soonest ≡ 33) ∥₁
-stands_opened soonest second is st = ∥∥₁_map st (λ s. (s, ap length is ∙ length-replicate 33 second))
 
 -- so many rows serve so many pages
 pub pages_served : {sizes : List ℕ} (s : Slab) (rows pages : ℕ) → Opened sizes rows s → rows ≡ 85 * pages → pages ≤ 256 → s.pages ≡ pages

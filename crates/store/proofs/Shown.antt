@@ -1,7 +1,5 @@
 -- What is shown after each change of the records. Assumes nothing.
 use Rattle.std.proofs.Common.{◌≡◌, ℕ, ◌-◌, ◌<◌, ◌≤◌, List, length, get_or, Some, None, vec_len, Option, sym, refl, ap, ◌∙◌, subst, arith}
-use mathlib.Core.Logic.{∥∥₁_map, ∥∥₁_elim, ∥∥₁_prop}
-use native.Mathlib.Bridge.{le_prop}
 use Rattle.plan.specs.Plans.{plan_sizes}
 use Rattle.chained.specs.Chains.{size}
 use Rattle.slabs.specs.declared.grant.Grant.{Grant}
@@ -13,10 +11,8 @@ use Rattle.model.specs.Records.{Record, class_no}
 use Rattle.model.specs.Store.{Store, Why, Happening, count_left, everything, with_growth, remove, to_front, set_expiry}
 use Rattle.model.proofs.Sound.{Lives}
 use Rattle.model.proofs.Accounts as accounts
-use Rattle.records.specs.declared.records.Records.{Records}
 use Rattle.records.specs.Reading.{record_at, without_record, with_front, with_expiry}
 use Rattle.records.specs.Showing.{ShowsRecords}
-use Rattle.records.specs.Standing.{Standing}
 use Rattle.records.specs.Kept.{Kept, GrantedTo}
 use Rattle.records.proofs.Leaving.{lives_here, home}
 use Rattle.store.specs.declared.store.RecordStore.{RecordStore}
@@ -25,22 +21,9 @@ use Rattle.store.specs.Showing.{Shows, Tame, Outstanding, Later, counts_shown}
 use Rattle.store.proofs.Soon.{Soon, soon_without, soon_front, noted, noted_later, soon_noted, soon_aged}
 use Rattle.store.proofs.Tamed.{leaves, tame_more, tame_removed, tame_fronted, tame_touched}
 
--- THE STORE STANDS
-
-pub standing : (t : RecordStore) → ∥ Standing t.records ∥₁
-standing t = ∥∥₁_map t.ok (λ o. o.0)
-
--- other records stand
-pub stands_on : (t : RecordStore) {new : Records} → ∥ Standing new ∥₁ → ∥ Standing new × (length t.soonest ≡ 33) ∥₁
-stands_on t new = ∥∥₁_elim new ∥∥₁_prop (λ st. ∥∥₁_map t.ok (λ o. (st, o.1)))
-
--- other records stand, and there are as many seconds
-pub stands_with : (t : RecordStore) {new : Records} (soonest : List ℕ) → ∥ Standing new ∥₁ → length soonest ≡ length t.soonest → ∥ Standing new × (length soonest ≡ 33) ∥₁
-stands_with t soonest new same = ∥∥₁_map (stands_on t new) (λ o. (o.0, same ∙ o.1))
-
 -- each class has its second
 pub has_second : (t : RecordStore) (class : ℕ) → class < 33 → class < length t.soonest
-has_second t class lt = ∥∥₁_elim t.ok le_prop (λ o. omega (arith, o.1))
+has_second t class lt = omega (arith, t.each)
 
 -- what is beside the records is as it was
 pub record Beside (t t' : RecordStore) : Type 0 where

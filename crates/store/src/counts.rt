@@ -2,10 +2,10 @@
 
 ghost use Rattle.std.specs.Prelude.{◌≡◌, ◌+◌, ◌-◌, ◌^◌, ◌<◌, min};
 ghost use Rattle.model.specs.Store.{count_left, count_linked, count_asked};
-ghost use Rattle.store.specs.Counting.{counts_shown, why_of, no_counts, gone, Leaves};
+ghost use Rattle.store.specs.Counting.{counts_shown, why_of, gone, Leaves};
 
 /// Records linked, records that left by each reason, and keys found and missed by get.
-#[derive(Clone, Copy)]
+#[derive(Clone, Copy, Default)]
 pub struct Counts {
     pub linked: u64,
     pub replaced: u64,
@@ -37,27 +37,11 @@ fn one_more(left: u64, linked: u64) -> u64
 }
 
 impl Counts {
-    /// Nothing was counted yet.
-    pub(crate) fn none() -> Counts
-        ensures { result ≡ no_counts }
-    {
-        Counts {
-            linked: 0,
-            replaced: 0,
-            deleted: 0,
-            flushed: 0,
-            expired: 0,
-            evicted: 0,
-            dropped: 0,
-            hits: 0,
-            misses: 0,
-        }
-    }
-
     /// Counts a record that left.
     pub(crate) fn left(&mut self, why: Why)
         ensures { Leaves self.old → counts_shown self.new ≡ count_left (why_of why) (counts_shown self.old) }
     {
+        // an array by reason would hide the counts' names, which stats tells
         match why {
             Why::Replaced => self.replaced = one_more(self.replaced, self.linked),
             Why::Deleted => self.deleted = one_more(self.deleted, self.linked),
@@ -103,11 +87,6 @@ impl Counts {
     pub(crate) fn entries(&self) -> u32
         ensures { result ≡ min (self.now.linked - gone self.now) (2 ^ 32 - 1) }
     {
-        let held = self.held();
-        if held < u64::from(u32::MAX) {
-            held as u32
-        } else {
-            u32::MAX
-        }
+        u32::try_from(self.held()).unwrap_or(u32::MAX)
     }
 }

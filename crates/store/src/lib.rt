@@ -9,4 +9,5 @@ mod store;
 pub use counts::{Counts, Why};
 pub use figures::Tally;
 pub use found::{Found, View};
+pub use records::Key;
 pub use store::{Fresh, NoRoom, RecordStore};

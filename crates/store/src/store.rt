@@ -1,7 +1,6 @@
 //! The store: the records with their plan, cas numbers and counts.
 
 ghost use Rattle.std.specs.Prelude.{◌≡◌, length};
-ghost use Rattle.records.specs.Standing.{Standing};
 
 mod finding;
 mod flushing;
@@ -21,7 +20,8 @@ use records::Records;
 /// The most classes, and one that stands for none.
 const CLASSES: usize = 33;
 
-/// All records, the last cas number, and what is counted.
+/// All records, the last cas number, and what is counted. Each call says that the number of pages stays, since it is the size of
+/// the memory that the owner hands over, and no constant of the type.
 #[derive(Drop)]
 pub struct RecordStore {
     plan: Plan,
@@ -29,6 +29,6 @@ pub struct RecordStore {
     cas: u64,
     counts: Counts,
     /// For each class a second before which none of its records is dead.
-    soonest: [u64; 33],
-    ghost ok: { ∥ (Standing records × (length soonest ≡ 33)) ∥₁ },
+    soonest: [u64; CLASSES],
+    ghost each: { length soonest ≡ 33 },
 }

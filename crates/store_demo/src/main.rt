@@ -2,16 +2,14 @@
 //! grows. A plain list goes through the same, and the two are compared at every step.
 #![tactic(auto)]
 
-ghost use Rattle.std.specs.Prelude.{◌*◌, ◌≤◌, length};
-ghost use Rattle.store.specs.Showing.{pages_of};
-
 mod desk;
 mod plainlist;
 
-use desk::{ask, forget, keep};
-use plainlist::{Copy, PlainList};
+use desk::Desk;
+use plainlist::{Entry, PlainList};
 use plan::Plan;
 use slabs::Row;
+use std::alloc::AllocError;
 use store::RecordStore;
 
 /// The next of a row of numbers that look like chance.
@@ -27,13 +25,10 @@ fn key_of(number: u64) -> [u8; 4] {
 }
 
 // A record whose data tell when it was stored; one in four ends two to ten seconds later.
-fn record(number: u64, step: u32, second: u32) -> Copy {
-    let expiry = if number / 90 % 4 == 0 {
-        Some(u64::from(second) + 2 + number / 360 % 9)
-    } else {
-        None
-    };
-    Copy {
+fn record(number: u64, step: u32, second: u32) -> Entry {
+    let ends = number / 90 % 4 == 0;
+    let expiry = ends.then(|| u64::from(second) + 2 + number / 360 % 9);
+    Entry {
         key: key_of(number),
         data: [(step % 251) as u8; 40],
         expiry,
@@ -41,33 +36,18 @@ fn record(number: u64, step: u32, second: u32) -> Copy {
 }
 
 // What is done at a step: in ten, six are stored, three are asked for, one is deleted. Says whether store and list agree.
-fn act(
-    store: &mut RecordStore,
-    memory: &mut [u8],
-    list: &mut PlainList,
-    chance: u64,
-    step: u32,
-) -> anyhow::Result<bool>
-    requires { 4096 * pages_of store.old ≤ length memory.old }
-    ensures { 4096 * pages_of store.new ≤ length memory.new }
-{
+fn act(desk: &mut Desk, chance: u64, step: u32) -> Result<bool, AllocError> {
     let second = step / 4;
     let number = chance / 1024;
     match chance / 64 % 10 {
-        0..=5 => Ok(keep(store, memory, list, record(number, step, second), second)?),
-        6..=8 => Ok(ask(store, memory, list, key_of(number), second)?),
-        _ => Ok(forget(store, memory, list, key_of(number), second)),
+        0..=5 => desk.keep(record(number, step, second), second),
+        6..=8 => desk.ask(key_of(number), second),
+        _ => Ok(desk.forget(key_of(number), second)),
     }
 }
 
-fn say(
-    rt: &HostRuntime,
-    store: &RecordStore,
-    list: &PlainList,
-    step: u32,
-    agreed: u32,
-) -> anyhow::Result<()> {
-    let tally = store.figures();
+fn say(rt: &HostRuntime, desk: &Desk, step: u32, agreed: u32) -> anyhow::Result<()> {
+    let (tally, same) = desk.figures();
     let counts = tally.counts;
     let held = tally.held;
     let slots = tally.slots;
@@ -75,11 +55,6 @@ fn say(
     let expired = counts.expired;
     let replaced = counts.replaced;
     let deleted = counts.deleted;
-    let same = list.records.len() as u64 == held
-        && list.evicted == evicted
-        && list.expired == expired
-        && list.replaced == replaced
-        && list.deleted == deleted;
     println!(rt;
         "step {step}: {held} held, {evicted} evicted, {expired} expired, {replaced} replaced, {deleted} deleted, {slots} slots; {agreed} steps agree, counts agree: {same}"
     )?;
@@ -87,28 +62,21 @@ fn say(
 }
 
 // Goes through all steps.
-fn play(
-    rt: &HostRuntime,
-    store: &mut RecordStore,
-    memory: &mut [u8],
-    list: &mut PlainList,
-) -> anyhow::Result<()>
-    requires { 4096 * pages_of store.old ≤ length memory.old }
-{
+fn play(rt: &HostRuntime, desk: &mut Desk) -> anyhow::Result<()> {
     let mut chance = 2026u64;
     let mut agreed = 0u32;
     for step in 0..4000u32 {
         chance = next(chance);
-        if act(store, memory, list, chance, step)? {
+        if act(desk, chance, step)? {
             agreed = agreed.wrapping_add(1);
         }
-        store.move_slot();
+        desk.move_slot();
         if step % 500 == 499 {
-            say(rt, store, list, step + 1, agreed)?;
+            say(rt, desk, step + 1, agreed)?;
         }
     }
-    store.flush();
-    let left = store.figures().held;
+    desk.flush();
+    let left = desk.figures().0.held;
     println!(rt; "after the flush: {left} held")?;
     Ok(())
 }
@@ -117,18 +85,17 @@ fn run(rt: &HostRuntime) -> anyhow::Result<()> {
     let Ok(plan) = Plan::new(96, 125) else {
         return Ok(());
     };
-    let mut memory = vec![in rt.alloc(); 0xaau8; 4096]?;
+    let memory = vec![in rt.alloc(); 0xaau8; 4096]?;
     let rows = vec![in rt.alloc(); Row::blank(); 85]?;
     let slots = vec![in rt.alloc(); 7u32; 64]?;
-    let mut store = RecordStore::open(plan, rows, slots);
-    let mut list = PlainList {
-        records: Vec::new(rt.alloc()),
-        replaced: 0,
-        deleted: 0,
-        expired: 0,
-        evicted: 0,
+    let store = RecordStore::open(plan, rows, slots);
+    let list = PlainList::new(rt.alloc());
+    let mut desk = Desk {
+        store,
+        memory,
+        list,
     };
-    play(rt, &mut store, &mut memory, &mut list)
+    play(rt, &mut desk)
 }
 
 fn main(rt: HostRuntime) -> anyhow::Result<()> {

@@ -1,70 +1,112 @@
 //! The same records as a plain list, the last used one in front: what a store of one class and one page should hold.
 
-use std::alloc::AllocError;
+ghost use Rattle.std.specs.Prelude.{◌<◌, IfSome, vec_len};
 
-/// A copy of a record.
+use std::alloc::{AllocError, Global};
+use store::Tally;
+
+/// A record of the list.
 #[derive(Clone, Copy)]
-pub struct Copy {
+pub struct Entry {
     pub key: [u8; 4],
     pub data: [u8; 40],
     pub expiry: Option<u64>,
 }
 
+impl Entry {
+    fn is_dead(&self, second: u32) -> bool {
+        self.expiry
+            .is_some_and(|expiry| expiry <= u64::from(second))
+    }
+}
+
+/// How many records are held, and how many left by each way.
+#[derive(Clone, Copy, PartialEq)]
+pub struct Figures {
+    pub held: u64,
+    pub evicted: u64,
+    pub expired: u64,
+    pub replaced: u64,
+    pub deleted: u64,
+}
+
+impl From<Tally> for Figures {
+    fn from(tally: Tally) -> Figures {
+        let counts = tally.counts;
+        Figures {
+            held: tally.held,
+            evicted: counts.evicted,
+            expired: counts.expired,
+            replaced: counts.replaced,
+            deleted: counts.deleted,
+        }
+    }
+}
+
 /// The records, and how many left by each way.
 #[derive(Drop)]
 pub struct PlainList {
-    pub records: Vec<Copy>,
-    pub replaced: u64,
-    pub deleted: u64,
-    pub expired: u64,
-    pub evicted: u64,
-}
-
-fn is_dead(copy: &Copy, second: u32) -> bool {
-    match copy.expiry {
-        Some(expiry) => expiry <= u64::from(second),
-        None => false,
-    }
+    entries: Vec<Entry>,
+    replaced: u64,
+    deleted: u64,
+    expired: u64,
+    evicted: u64,
 }
 
 impl PlainList {
-    // Where the record of a key stands.
-    fn place(&self, key: [u8; 4]) -> Option<usize> {
-        for (at, copy) in self.records.iter().enumerate() {
-            if copy.key == key {
-                return Some(at);
-            }
+    /// An empty list.
+    pub fn new(alloc: Global) -> PlainList {
+        PlainList {
+            entries: Vec::new(alloc),
+            replaced: 0,
+            deleted: 0,
+            expired: 0,
+            evicted: 0,
         }
-        None
     }
 
-    // Takes the record at a place out.
-    fn take(&mut self, at: usize) -> Option<Copy> {
-        if at < self.records.len() {
-            Some(self.records.remove(at))
-        } else {
-            None
+    /// How many records are held, and how many left by each way.
+    pub fn figures(&self) -> Figures {
+        Figures {
+            held: self.entries.len() as u64,
+            evicted: self.evicted,
+            expired: self.expired,
+            replaced: self.replaced,
+            deleted: self.deleted,
         }
+    }
+
+    // Where the record of a key stands.
+    fn place(&self, key: [u8; 4]) -> Option<usize>
+        ensures { IfSome result (λ at. at < vec_len self.now.entries) }
+    {
+        self.entries.iter().position(|entry| entry.key == key)
+    }
+
+    // Where the dead record nearest the back stands.
+    fn rearmost_dead(&self, second: u32) -> Option<usize>
+        ensures { IfSome result (λ at. at < vec_len self.now.entries) }
+    {
+        self.entries.iter().rposition(|entry| entry.is_dead(second))
     }
 
     /// The record of a key; a dead one leaves.
-    pub fn find(&mut self, key: [u8; 4], second: u32) -> Option<Copy> {
+    pub fn find(&mut self, key: [u8; 4], second: u32) -> Option<Entry> {
         let at = self.place(key)?;
-        let copy = self.records.get(at).copied()?;
-        if is_dead(&copy, second) {
-            let _ = self.take(at);
+        let entry = self.entries[at];
+        if entry.is_dead(second) {
+            self.entries.remove(at);
             self.expired = self.expired.wrapping_add(1);
             return None;
         }
-        Some(copy)
+        Some(entry)
     }
 
     /// Puts the record of a key in front.
     pub fn touch(&mut self, key: [u8; 4]) -> Result<(), AllocError> {
         if let Some(at) = self.place(key) {
-            if let Some(copy) = self.take(at) {
-                self.records.insert(0, copy)?;
-            }
+            let entry = self.entries.remove(at);
+            self.entries.insert(0, entry)?;
         }
         Ok(())
     }
@@ -72,39 +114,33 @@ impl PlainList {
     /// Deletes the record of a key.
     pub fn delete(&mut self, key: [u8; 4]) {
         if let Some(at) = self.place(key) {
-            let _ = self.take(at);
+            self.entries.remove(at);
             self.deleted = self.deleted.wrapping_add(1);
         }
     }
 
     // Makes room for one more among at most `most`: a dead record leaves, the one nearest the back, or else the last.
     fn make_room(&mut self, most: usize, second: u32) {
-        if self.records.len() < most {
+        if self.entries.len() < most {
             return;
         }
-        let mut dead = None;
-        for (at, copy) in self.records.iter().enumerate() {
-            if is_dead(copy, second) {
-                dead = Some(at);
-            }
-        }
-        if let Some(at) = dead {
-            let _ = self.take(at);
+        if let Some(at) = self.rearmost_dead(second) {
+            self.entries.remove(at);
             self.expired = self.expired.wrapping_add(1);
         } else {
-            let _ = self.records.pop();
+            self.entries.pop();
             self.evicted = self.evicted.wrapping_add(1);
         }
     }
 
     /// Stores a record in front; one that is still held under its key then leaves.
-    pub fn store(&mut self, copy: Copy, most: usize, second: u32) -> Result<(), AllocError> {
+    pub fn store(&mut self, entry: Entry, most: usize, second: u32) -> Result<(), AllocError> {
         self.make_room(most, second);
-        if let Some(at) = self.place(copy.key) {
-            let _ = self.take(at);
+        if let Some(at) = self.place(entry.key) {
+            self.entries.remove(at);
             self.replaced = self.replaced.wrapping_add(1);
         }
-        self.records.insert(0, copy)?;
+        self.entries.insert(0, entry)?;
         Ok(())
     }
 }

@@ -7,7 +7,6 @@ ghost use Rattle.model.specs.Sound.{Numbered};
 ghost use Rattle.model.specs.Store.{Class, class_at, with_page};
 ghost use Rattle.records.specs.Kept.{GrantedTo, NoGrant, OnlyGrant, Kept};
 ghost use Rattle.records.specs.Showing.{HasChunks, ShowsRecords};
-ghost use Rattle.records.specs.Standing.{Standing};
 
 use super::Records;
 use slabs::Grant;
@@ -15,8 +14,6 @@ use slabs::Grant;
 impl Records {
     /// Grants a free chunk of a class, if it has one.
     pub fn take(&mut self, class: usize) -> Option<Grant>
-        requires standing { ∥ Standing self.old ∥₁ }
-        ensures standing { ∥ Standing self.new ∥₁ }
         ensures taken { MatchOption result (self.new ≡ self.old) (λ grant. (grant.class ≡ class) × Granted self.new.slab grant) }
         ensures layout { layout self.new.slab ≡ layout self.old.slab }
         ensures table { self.new.table ≡ self.old.table }
@@ -30,8 +27,6 @@ impl Records {
 
     /// Gives the next free page to a class; false, and nothing done, where there is none.
     pub fn give_page(&mut self, class: usize) -> bool
-        requires standing { ∥ Standing self.old ∥₁ }
-        ensures standing { ∥ Standing self.new ∥₁ }
         ensures answer { (setup : Setup) (memory : List ℕ) (ks : List Class) → HasChunks setup → ShowsRecords setup self.old.slab memory ks → Numbered setup class → result ≡ nat_lt self.old.slab.given self.old.slab.pages }
         ensures pages { (self.new.slab.pages ≡ self.old.slab.pages) × (self.new.slab.given ≡ (if result then self.old.slab.given + 1 else self.old.slab.given)) }
         ensures same { result ≡ false → self.new ≡ self.old }
@@ -45,9 +40,7 @@ impl Records {
 
     /// Returns a grant: its chunk is free again.
     pub fn give_back(&mut self, grant: Grant)
-        requires standing { ∥ Standing self.old ∥₁ }
         requires granted { Granted self.old.slab grant }
-        ensures standing { ∥ Standing self.new ∥₁ }
         ensures kept { Kept self.old self.new }
         ensures returned { (class : ℕ) → GrantedTo self.new.slab grant.row class → ⊥ }
         ensures shown { (setup : Setup) (memory : List ℕ) (ks : List Class) → ShowsRecords setup self.old.slab memory ks → ShowsRecords setup self.new.slab memory ks }

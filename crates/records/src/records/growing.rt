@@ -8,15 +8,12 @@ ghost use Rattle.model.specs.Setup.{Setup};
 ghost use Rattle.model.specs.Store.{Class};
 ghost use Rattle.records.specs.Kept.{GrantedTo};
 ghost use Rattle.records.specs.Showing.{ShowsRecords};
-ghost use Rattle.records.specs.Standing.{Standing};
 
 use super::Records;
 
 impl Records {
     /// Starts to double the slots where the rule of growth asks for it: the caller says how many records are held.
     pub fn grow_after(&mut self, entries: u32)
-        requires standing { ∥ Standing self.old ∥₁ }
-        ensures standing { ∥ Standing self.new ∥₁ }
         ensures slab { self.new.slab ≡ self.old.slab }
         ensures slots { vec_len self.new.heads ≡ vec_len self.old.heads }
         ensures grown { size self.new.table ≡ grow_after entries (vec_len self.old.heads) (size self.old.table) }
@@ -26,8 +23,6 @@ impl Records {
 
     /// Moves one old slot, if one is left.
     pub fn move_slot(&mut self)
-        requires standing { ∥ Standing self.old ∥₁ }
-        ensures standing { ∥ Standing self.new ∥₁ }
         ensures moved { size self.new.table ≡ move_one (size self.old.table) }
         ensures layout { layout self.new.slab ≡ layout self.old.slab }
         ensures slots { vec_len self.new.heads ≡ vec_len self.old.heads }

@@ -9,7 +9,6 @@ ghost use Rattle.model.specs.Setup.{Setup};
 ghost use Rattle.model.specs.Store.{bare};
 ghost use Rattle.records.specs.Kept.{NoGrant};
 ghost use Rattle.records.specs.Showing.{ShowsRecords};
-ghost use Rattle.records.specs.Standing.{Standing};
 
 use super::Records;
 use chained::Chains;
@@ -21,7 +20,6 @@ impl Records {
     pub fn open(plan: &Plan, rows: Vec<Row>, mut slots: Vec<u32>) -> Records
         requires least { 16 ≤ vec_len slots }
         requires limit { vec_len slots ≤ 16384 }
-        ensures standing { ∥ Standing result ∥₁ }
         ensures opened { Opened (plan_sizes plan.now) (vec_len rows) result.slab }
         ensures table { size result.table ≡ start }
         ensures slots { vec_len result.heads ≡ vec_len slots }

@@ -13,16 +13,14 @@ ghost use Rattle.model.specs.Sound.{Numbered};
 ghost use Rattle.model.specs.Store.{Class, class_at, first, last};
 ghost use Rattle.records.specs.Reading.{record_at};
 ghost use Rattle.records.specs.Showing.{ShowsRecords};
-ghost use Rattle.records.specs.Standing.{Standing};
 
 use super::Records;
-use crate::dead::Dead;
+use crate::dead::is_dead;
 use slabs::Tag;
 
 impl Records {
     /// What is told of a record beside its key and data.
     pub fn tag(&self, i: u32) -> Tag
-        requires standing { ∥ Standing self.now ∥₁ }
         requires held { Holds self.now.slab i }
         ensures { result ≡ (slice_index_or (rows_of self.now.slab) i blank).tag }
     {
@@ -31,7 +29,6 @@ impl Records {
 
     /// The data of a record, where they lie in page memory.
     pub fn data<'a>(&self, memory: &'a [u8], i: u32) -> &'a [u8]
-        requires standing { ∥ Standing self.now ∥₁ }
         requires held { Holds self.now.slab i }
         ensures data { result.now ≡ (record_at (layout self.now.slab) (rows_of self.now.slab) memory.now i).block }
         ensures short { (slice_index_or (rows_of self.now.slab) i blank).key_len + length result.now ≤ 4096 }
@@ -41,7 +38,6 @@ impl Records {
 
     /// The class of a record.
     pub fn class_of(&self, i: u32) -> usize
-        requires standing { ∥ Standing self.now ∥₁ }
         requires held { Holds self.now.slab i }
         ensures value { result ≡ slab.class_at (layout self.now.slab) i }
         ensures few { result < 33 }
@@ -51,7 +47,6 @@ impl Records {
 
     /// How many records a class holds.
     pub fn used(&self, class: usize) -> u32
-        requires standing { ∥ Standing self.now ∥₁ }
         ensures { (ls : ℕ → List ℕ) → Lists self.now.slab ls → result ≡ length (ls (held_of class)) }
     {
         self.slab.tally(class).used
@@ -59,7 +54,6 @@ impl Records {
 
     /// The front record of a class, if it has one.
     pub fn foremost(&self, class: usize) -> Option<u32>
-        requires standing { ∥ Standing self.now ∥₁ }
         ensures held { IfSome result (λ i. Holds self.now.slab i) }
         ensures shown { (setup : Setup) (memory : List ℕ) (ks : List Class) → ShowsRecords setup self.now.slab memory ks → Numbered setup class → first (λ _. true) (class_at class ks).records ≡ option_map (λ i. record_at (layout self.now.slab) (rows_of self.now.slab) memory i) result }
     {
@@ -68,7 +62,6 @@ impl Records {
 
     /// The rearmost record of a class, if it has one.
     pub fn rearmost(&self, class: usize) -> Option<u32>
-        requires standing { ∥ Standing self.now ∥₁ }
         ensures held { IfSome result (λ i. Holds self.now.slab i) }
         ensures shown { (setup : Setup) (memory : List ℕ) (ks : List Class) → ShowsRecords setup self.now.slab memory ks → Numbered setup class → last (λ _. true) (class_at class ks).records ≡ option_map (λ i. record_at (layout self.now.slab) (rows_of self.now.slab) memory i) result }
     {
@@ -77,17 +70,15 @@ impl Records {
 
     /// The dead record nearest the back of a class, if it has one. This walks along the class.
     pub fn rearmost_dead(&self, class: usize, second: u32) -> Option<u32>
-        requires standing { ∥ Standing self.now ∥₁ }
         ensures held { IfSome result (λ i. Holds self.now.slab i) }
         ensures shown { (setup : Setup) (memory : List ℕ) (ks : List Class) → ShowsRecords setup self.now.slab memory ks → Numbered setup class → last (dead second) (class_at class ks).records ≡ option_map (λ i. record_at (layout self.now.slab) (rows_of self.now.slab) memory i) result }
     {
-        let dead = Dead { second };
-        self.slab.rearmost_that(class, &dead)
+        self.slab
+            .rearmost_that(class, |row| is_dead(row.tag.expiry, second))
     }
 
     /// How many pages there are.
     pub fn pages(&self) -> u32
-        requires standing { ∥ Standing self.now ∥₁ }
         ensures { result ≡ self.now.slab.pages }
     {
         self.slab.pages()
@@ -95,7 +86,6 @@ impl Records {
 
     /// How many pages were not given out yet.
     pub fn free_pages(&self) -> u32
-        requires standing { ∥ Standing self.now ∥₁ }
         ensures { self.now.slab.given + result ≡ self.now.slab.pages }
     {
         self.slab.free_pages()
@@ -103,7 +93,6 @@ impl Records {
 
     /// The size of a class's chunks, 0 where there is no such class.
     pub fn size(&self, class: usize) -> u32
-        requires standing { ∥ Standing self.now ∥₁ }
         ensures { result ≡ slice_index (layout self.now.slab).sizes class }
     {
         self.slab.size(class)

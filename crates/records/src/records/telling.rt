@@ -9,7 +9,6 @@ ghost use Rattle.records.specs.Reading.{record_at, with_front, with_expiry};
 ghost use Rattle.records.specs.Showing.{ShowsRecords};
 ghost use Rattle.slabs.specs.Records.{Retagged};
 ghost use Rattle.records.specs.Kept.{Kept};
-ghost use Rattle.records.specs.Standing.{Standing};
 
 use super::Records;
 use slabs::Tag;
@@ -17,24 +16,18 @@ use slabs::Tag;
 impl Records {
     // Tells something else of a record, whose hash stays.
     fn retag(&mut self, i: u32, tag: Tag)
-        requires standing { ∥ Standing self.old ∥₁ }
         requires held { Holds self.old.slab i }
         requires hash { tag.hash ≡ slice_index (map (λ row. row.tag.hash) (rows_of self.old.slab)) i }
-        ensures standing { ∥ Standing self.new ∥₁ }
         ensures retagged { Retagged self.old.slab self.new.slab i tag }
         ensures table { self.new.table ≡ self.old.table }
         ensures kept { Kept self.old self.new }
     {
         self.slab.set_tag(i, tag);
     }
-}
 
-impl Records {
     /// Brings a record to the front of its class at this second.
     pub fn bring_to_front(&mut self, i: u32, second: u32)
-        requires standing { ∥ Standing self.old ∥₁ }
         requires held { Holds self.old.slab i }
-        ensures standing { ∥ Standing self.new ∥₁ }
         ensures kept { Kept self.old self.new }
         ensures stays { Holds self.new.slab i }
         ensures shown { (setup : Setup) (memory : List ℕ) (ks : List Class) → ShowsRecords setup self.old.slab memory ks → ShowsRecords setup self.new.slab memory (with_front setup second (record_at (layout self.old.slab) (rows_of self.old.slab) memory i) ks) }
@@ -49,14 +42,10 @@ impl Records {
         );
         self.slab.move_to_front(i);
     }
-}
 
-impl Records {
     /// Sets the expiry of a record where it stands.
     pub fn set_expiry(&mut self, i: u32, expiry: Option<u64>)
-        requires standing { ∥ Standing self.old ∥₁ }
         requires held { Holds self.old.slab i }
-        ensures standing { ∥ Standing self.new ∥₁ }
         ensures kept { Kept self.old self.new }
         ensures stays { Holds self.new.slab i }
         ensures shown { (setup : Setup) (memory : List ℕ) (ks : List Class) → ShowsRecords setup self.old.slab memory ks → ShowsRecords setup self.new.slab memory (with_expiry setup expiry (record_at (layout self.old.slab) (rows_of self.old.slab) memory i) ks) }

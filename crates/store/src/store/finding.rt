@@ -2,7 +2,6 @@
 
 ghost use Rattle.std.specs.Prelude.{◌≡◌, ℕ, ◌+◌, ◌*◌, ◌≤◌, List, length, IfSome, None};
 ghost use Rattle.std.specs.Option.{option_map};
-ghost use Rattle.chained.specs.Fnv.{fnv};
 ghost use Rattle.model.specs.Setup.{Setup};
 ghost use Rattle.model.specs.Store.{Store, find, held};
 ghost use Rattle.store.specs.Showing.{Shows, Held, found_record, pages_of};
@@ -10,19 +9,16 @@ ghost use Rattle.store.specs.Showing.{Shows, Held, found_record, pages_of};
 use super::RecordStore;
 use crate::counts::Why;
 use crate::found::{Found, View};
-use records::is_dead;
+use records::{Key, is_dead};
 
 impl RecordStore {
     /// The record of a key, if one is held. A dead one is removed.
-    pub fn find(&mut self, memory: &[u8], key: &[u8], hash: u32, second: u32) -> Option<Found>
-        requires hash { hash ≡ fnv key.now }
+    pub fn find(&mut self, memory: &[u8], key: &Key, second: u32) -> Option<Found>
         ensures pages { pages_of self.new ≡ pages_of self.old }
         ensures held { IfSome result (λ found. Held self.new found) }
-        ensures shown { (setup : Setup) (n : ℕ) (s : Store) → Shows setup n self.old memory.now None s → Shows setup n self.new memory.now None (find setup second key.now s) × (held key.now (find setup second key.now s) ≡ option_map (λ found. found_record self.new memory.now found) result) }
+        ensures shown { (setup : Setup) (n : ℕ) (s : Store) → Shows setup n self.old memory.now None s → Shows setup n self.new memory.now None (find setup second key.now.bytes.now s) × (held key.now.bytes.now (find setup second key.now.bytes.now s) ≡ option_map (λ found. found_record self.new memory.now found) result) }
     {
-        let Some(row) = self.records.find(memory, key, hash) else {
-            return None;
-        };
+        let row = self.records.find(memory, key)?;
         let tag = self.records.tag(row);
         if is_dead(tag.expiry, second) {
             self.leave(row, Why::Expired);

@@ -16,11 +16,7 @@ impl RecordStore {
         ensures pages { pages_of self.new ≡ pages_of self.old }
         ensures shown { (setup : Setup) (n : ℕ) (memory : List ℕ) (s : Store) (at : ℕ) → Shows setup n self.old memory None s → Numbered setup class → Emptied class s → Flushing setup n self.new memory at s (class + 1) }
     {
-        let held = self.records.used(class);
-        for gone in 0..held {
-            let Some(row) = self.records.foremost(class) else {
-                return;
-            };
+        while let Some(row) = self.records.foremost(class) {
             self.leave(row, Why::Flushed);
         }
     }
@@ -31,8 +27,8 @@ impl RecordStore {
         ensures shown { (setup : Setup) (n : ℕ) (memory : List ℕ) (s : Store) (at : ℕ) → n < 2 ^ 63 → Shows setup n self.old memory None s → Shows setup n self.new memory None (remove_all setup at Flushed (everything s) s) }
     {
         let classes = self.plan.classes();
-        for before in 0..classes {
-            self.flush_class(before + 1);
+        for class in 1..=classes {
+            self.flush_class(class);
         }
     }
 }

@@ -80,13 +80,7 @@ impl RecordStore {
         ensures pages { pages_of self.new ≡ pages_of self.old }
         ensures shown { (setup : Setup) (n : ℕ) (memory : List ℕ) (s : Store) → Shows setup n self.old memory None s → Numbered setup class → Made setup class n self.new memory s (with_room setup evicts second class s) result }
     {
-        if self.give_page(class) {
-            return true;
-        }
-        if self.reclaim(class, second) {
-            return true;
-        }
-        evicts && self.evict(class)
+        self.give_page(class) || self.reclaim(class, second) || (evicts && self.evict(class))
     }
 
     // Grants a chunk for a record that needs so much room.
@@ -95,19 +89,14 @@ impl RecordStore {
         ensures granted { IfOk result (λ grant. HasGrant self.new grant × (need ≤ room_of self.new grant)) }
         ensures shown { (setup : Setup) (n : ℕ) (memory : List ℕ) (s : Store) → Shows setup n self.old memory None s → Comes setup (λ c. granting setup evicts second c s) (class_of need setup.sizes) n self.new memory s result }
     {
-        let Some(class) = self.plan.class_of(need) else {
-            return Err(NoRoom::TooLarge);
-        };
+        let class = self.plan.class_of(need).ok_or(NoRoom::TooLarge)?;
         if let Some(grant) = self.take(class, need) {
             return Ok(grant);
         }
         if !self.make_room(class, second, evicts) {
             return Err(NoRoom::Full);
         }
-        match self.take(class, need) {
-            Some(grant) => Ok(grant),
-            None => Err(NoRoom::Full),
-        }
+        self.take(class, need).ok_or(NoRoom::Full)
     }
 
     /// Grants a chunk for a record of these lengths. A class that is full gets a free page, or loses its dead record

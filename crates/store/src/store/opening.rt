@@ -1,6 +1,6 @@
 //! Opening a store over rows and slots that it is handed.
 
-ghost use Rattle.std.specs.Prelude.{◌≡◌, ℕ, ◌-◌, ◌*◌, ◌^◌, ◌≤◌, List, replicate, None, vec_len};
+ghost use Rattle.std.specs.Prelude.{◌≡◌, ℕ, ◌*◌, ◌≤◌, List, None, vec_len};
 ghost use Rattle.plan.specs.Plans.{plan_sizes};
 ghost use Rattle.model.specs.Setup.{Setup};
 ghost use Rattle.model.specs.Calls.{empty};
@@ -11,13 +11,6 @@ use crate::counts::Counts;
 use plan::Plan;
 use records::Records;
 use slabs::Row;
-
-// No record will ever be dead.
-fn never() -> [u64; 33]
-    ensures { result ≡ replicate 33 (2 ^ 64 - 1) }
-{
-    [u64::MAX; CLASSES]
-}
 
 impl RecordStore {
     /// A store with no records over these rows, 85 for each page, and slots. What they held before does not matter.
@@ -32,8 +25,9 @@ impl RecordStore {
             plan,
             records,
             cas: 0,
-            counts: Counts::none(),
-            soonest: never(),
+            counts: Counts::default(),
+            // no record will ever be dead
+            soonest: [u64::MAX; CLASSES],
         }
     }
 }

@@ -17,10 +17,7 @@ pub(super) fn note_expiry(soonest: &mut [u64], class: usize, expiry: Option<u64>
     ensures { soonest.new ≡ slice_set soonest.old class (sooner (slice_index soonest.old class) expiry) }
 {
     let bound = soonest[class];
-    soonest[class] = match expiry {
-        Some(end) => bound.min(end),
-        None => bound,
-    };
+    soonest[class] = expiry.map_or(bound, |end| bound.min(end));
 }
 
 impl RecordStore {

@@ -1,5 +1,4 @@
 use Rattle.std.proofs.Common.{◌≡◌, ◌<◌, length, get_or, sym, ap, ◌∙◌, subst, arith}
-use mathlib.Core.Logic.{∥∥₁_map, ∥∥₁_elim, ∥∥₁_prop}
 use lib.ListN.{length-map}
 use Rattle.slabs.specs.Rows.{blank}
 use Rattle.slabs.specs.Lists.{held_of, to_front}
@@ -11,14 +10,10 @@ use Rattle.records.proofs.Indexing.{reindexed}
 use Rattle.records.proofs.Telling.{at_second, at_column, shows_fronted}
 use Rattle.records.proofs.records.Records.bring_to_front.Goals as goal
 
-pub tag-tag-requires : goal.tag-tag-requires
-tag-tag-requires c = record { sound = ∥∥₁_map c.requires.standing (λ s. s.sound); held = c.requires.held }
-
 pub retag-requires : goal.retag-requires
 retag-requires c =
     let rs = rows_of c.args.self.now.slab in
     record {
-      standing = c.requires.standing;
       held = c.requires.held;
       hash = ap (λ x. x.hash) (c.tag-tag.ensures blank.tag ∙ at_column (λ row. row.tag) rs c.args.i) ∙ sym (at_column (λ row. row.tag.hash) rs c.args.i);
     }
@@ -26,10 +21,12 @@ retag-requires c =
 pub move_to_front-requires : goal.move_to_front-requires
 move_to_front-requires c =
     let told = c.retag.ensures.retagged in
-    record {
-      sound = ∥∥₁_map c.retag.ensures.standing (λ s. s.sound);
-      held = ap (λ h. get_or h c.args.i 0) told.homes_stay ∙ c.requires.held ∙ ap (λ l. held_of (class_at l c.args.i)) (sym told.layout_stays);
-    }
+    ap (λ h. get_or h c.args.i 0) told.homes_stay ∙ c.requires.held ∙ ap (λ l. held_of (class_at l c.args.i)) (sym told.layout_stays)
+
+pub invariant_of-self : goal.invariant_of-self
+invariant_of-self c =
+    let went = c.move_to_front.ensures in
+    record { indexed = reindexed c.retag.new.self c.move_to_front.new.self went.rests went.homes went.layout }
 
 pub returns : goal.returns
 returns c =
@@ -38,7 +35,7 @@ returns c =
     let u = c.retag.new.self in
     let new = c.move_to_front.new.self in
     let told = c.retag.ensures.retagged in
-    let went = c.move_to_front.ensures.moved in
+    let went = c.move_to_front.ensures in
     let tag_is : c.tag-tag.result ≡ get_or (tags (rows_of s)) i blank.tag = c.tag-tag.ensures blank.tag in
     let retagged : Retagged s u.slab i (at_second c.args.second (get_or (tags (rows_of s)) i blank.tag)) =
     subst (λ x. Retagged s u.slab i (at_second c.args.second x)) tag_is told in
@@ -46,8 +43,6 @@ returns c =
     subst (λ l. Reordered u.slab new (to_front i (held_of (class_at l i)))) told.layout_stays went in
     let lt : i < length (rows_of s) = rw (length-map (rows_of s) (λ row. row.home)) at (within (homes_of s) i (rw c.requires.held (omega arith))) in
     record {
-      standing = ∥∥₁_elim c.move_to_front.ensures.sound ∥∥₁_prop (λ sound.
-          ∥∥₁_map c.retag.ensures.standing (λ st. record { sound = sound; indexed = reindexed u new went.rests went.homes went.layout st.indexed }));
       kept = record {
         layout = went.layout ∙ c.retag.ensures.kept.layout;
         table = c.retag.ensures.kept.table;

@@ -1,8 +1,4 @@
-use mathlib.Core.Logic.{∥∥₁_map}
 use Rattle.records.proofs.records.Records.class_of.Goals as goal
-
-pub class_held-requires : goal.class_held-requires
-class_held-requires c = ∥∥₁_map c.requires.standing (λ s. s.sound)
 
 pub unwrap-requires : goal.unwrap-requires
 unwrap-requires c = c.class_held.ensures.some c.requires.held

@@ -1,5 +1,4 @@
 use Rattle.std.proofs.Common.{◌+◌, length, get_or, drop, ap, ◌∙◌, arith}
-use mathlib.Core.Logic.{∥∥₁_map}
 use Rattle.std.proofs.lemmas.List.{length-take}
 use Rattle.slabs.specs.Rows.{blank}
 use Rattle.slabs.specs.Layouts.{start}
@@ -8,9 +7,6 @@ use Rattle.slabs.specs.Records.{bytes_at, data_lens}
 use Rattle.slabs.proofs.Ends.{record_fits, chunk_inside}
 use Rattle.records.proofs.Telling.{at_column}
 use Rattle.records.proofs.records.Records.data.Goals as goal
-
-pub data_if_held-requires : goal.data_if_held-requires
-data_if_held-requires c = ∥∥₁_map c.requires.standing (λ s. s.sound)
 
 pub unwrap-requires : goal.unwrap-requires
 unwrap-requires c = c.data_if_held.ensures.some c.requires.held
@@ -26,10 +22,9 @@ returns c =
     let is = c.data_if_held.ensures.is c.unwrap.result c.unwrap.ensures
     ∙ ap (λ k. bytes_at memory (start (layout s) i + k) (get_or (data_lens (rows_of s)) i 0)) key
     ∙ ap (λ n. bytes_at memory (start (layout s) i + row.key_len) n) block in
-    let sound = ∥∥₁_map c.requires.standing (λ st. st.sound) in
     let span = at_column (λ r. r.key_len + r.data_len) (rows_of s) i in
-    let fits = record_fits s sound i c.requires.held in
-    let inside = chunk_inside s sound i (rw c.requires.held (omega arith)) in
+    let fits = record_fits s i c.requires.held in
+    let inside = chunk_inside s i (rw c.requires.held (omega arith)) in
     record {
       «data» = is;
       short = omega (arith, ap length is, length-take row.data_len (drop (start (layout s) i + row.key_len) memory));

@@ -1,19 +1,19 @@
-use Rattle.std.proofs.Common.{◌≡◌, ◌∷◌, map, length, vec_items, refl, ap, ◌∙◌, subst, arith}
-use mathlib.Core.Logic.{∥∥₁_map, ∥∥₁_elim, ∥∥₁_prop}
+use Rattle.std.proofs.Common.{◌≡◌, ◌∷◌, map, length, vec_items, refl, ap, ◌∙◌, subst, arith, Vec, Global}
+use mathlib.Core.Logic.{∥∥₁_map}
 use lib.ListN.{length-map}
 use Rattle.std.specs.Vec.{with_items}
 use Rattle.std.proofs.lemmas.List.{with_items_is}
 use Rattle.recency.specs.Numbers.{count}
 use Rattle.chained.specs.Chains.{Keeps, size}
 use Rattle.chained.proofs.Sound.{holds_as}
-use Rattle.slabs.specs.Slabs.{rows_of}
-use Rattle.records.specs.Standing.{Standing}
-use Rattle.records.proofs.Chaining.{unchained, with_rows, sound_chained}
+use Rattle.slabs.specs.declared.row.Row.{Row}
+use Rattle.slabs.specs.declared.slab.Slab.{Slab}
+use Rattle.slabs.specs.Slabs.{InOrder, layout, rows_of}
+use Rattle.records.specs.Standing.{Indexed}
+use Rattle.records.proofs.Chaining.{unchained, order_same}
 use Rattle.records.proofs.Linking.{row_still, outside, still_kept, put_exact, put_granted, put_spent, put_shown}
 use Rattle.records.proofs.records.Records.put.Goals as goal
-
-pub link-row-requires : goal.link-row-requires
-link-row-requires c = record { sound = ∥∥₁_map c.requires.standing (λ s. s.sound); granted = c.requires.granted; fits = c.requires.fits; memory = c.requires.memory }
+use Rattle.records.proofs.records.Records.put.Goals.{After-insert}
 
 pub insert-requires : goal.insert-requires
 insert-requires c =
@@ -25,17 +25,43 @@ insert-requires c =
     let heads_are = c.deref_mut.ensures.value in
     let rows_are = c.deref_mut-2.ensures.value in
     record {
-      within = omega (arith, row_is, ap length rows_are, row_still t c.requires.standing grant.row grant.class c.requires.granted u made.linked _ _ c.args.tag made.described);
-      outside = ∥∥₁_map c.requires.standing (λ s. (
-        s.indexed.ids,
-        holds_as (size t.table) s.indexed.ids heads_are (ap (map (λ row. row.chain)) rows_are) (ap (map (λ row. row.tag.hash)) rows_are)
-            (still_kept t c.requires.standing grant.row grant.class c.requires.granted u made.linked _ _ c.args.tag made.described s.indexed),
-        ap (λ n. count n s.indexed.ids) (row_is) ∙ outside t c.requires.standing grant.row grant.class c.requires.granted u made.linked _ _ c.args.tag made.described s.indexed,
+      within = omega (arith, row_is, ap length rows_are, row_still t grant.row grant.class c.requires.granted u made.linked _ _ c.args.tag made.described);
+      outside = ∥∥₁_map t.indexed (λ ix. (
+        ix.ids,
+        holds_as (size t.table) ix.ids heads_are (ap (map (λ row. row.chain)) rows_are) (ap (map (λ row. row.tag.hash)) rows_are)
+            (still_kept t grant.row grant.class c.requires.granted u made.linked _ _ c.args.tag made.described ix),
+        ap (λ n. count n ix.ids) (row_is) ∙ outside t grant.row grant.class c.requires.granted u made.linked _ _ c.args.tag made.described ix,
       ));
     }
 
-pub returns : goal.returns
-returns c =
+module _ (c : After-insert) where
+  abbrev linked : Slab
+  linked = c.link-row.new.self
+
+  abbrev rows : Vec Row Global
+  rows = with_items linked.rows c.insert.new.rows
+
+  rows_out : vec_items rows ≡ c.insert.new.rows
+  rows_out =
+      with_items_is linked.rows c.insert.new.rows
+      (omega (arith, ap length c.insert.ensures.rest, length-map c.insert.new.rows unchained, length-map c.deref_mut-2.result.now unchained, c.deref_mut-2.ensures.len))
+
+  -- but for the chains the rows are as the slab linked them
+  stays : map unchained (vec_items rows) ≡ map unchained (rows_of linked)
+  stays = ap (map unchained) rows_out ∙ c.insert.ensures.rest ∙ ap (map unchained) c.deref_mut-2.ensures.value
+
+  in_order : ∥ InOrder linked.classes.all (vec_items rows) (layout linked) ∥₁
+  in_order = ∥∥₁_map linked.ok (order_same (rows_of linked) (vec_items rows) stays linked.classes.all (layout linked))
+
+  abbrev chained : Slab
+  chained = record { rows = rows; classes = linked.classes; owners = linked.owners; given = linked.given; pages = linked.pages; ok = in_order }
+
+pub invariant_of-self : goal.invariant_of-self
+invariant_of-self c = (in_order (goal.at.invariant_of-self c).After-insert, tt)
+
+pub invariant_of-self-2 : goal.invariant_of-self-2
+invariant_of-self-2 c =
+    let a = (goal.at.invariant_of-self-2 c).After-insert in
     let t = c.args.self.now in
     let grant = c.args.grant in
     let u = c.link-row.new.self in
@@ -44,37 +70,38 @@ returns c =
     let put = c.insert.ensures in
     let heads_are = c.deref_mut.ensures.value in
     let rows_are = c.deref_mut-2.ensures.value in
-    let ws = c.insert.new.rows in
     let hs = c.insert.new.heads in
-    let v = with_items u.rows ws in
-    let new = with_rows u v in
-    let long : length ws ≡ u.rows.len = omega (arith, ap length put.rest, length-map ws unchained, length-map c.deref_mut-2.result.now unchained, c.deref_mut-2.ensures.len) in
-    let out = with_items_is u.rows ws long in
-    let stays : map unchained (vec_items v) ≡ map unchained (rows_of u) = ap (map unchained) out ∙ put.rest ∙ ap (map unchained) rows_are in
+    let out = rows_out a in
     let heads_long : length hs ≡ t.heads.len = omega (arith, c.insert.auto.heads, c.deref_mut.ensures.len) in
-    let kept : (st : Standing t) → Keeps (λ row. row.chain) (λ row. row.tag.hash) t.table hs ws (grant.row ∷ st.indexed.ids) = λ st.
-    let ids = st.indexed.ids in
-    subst (λ n. Keeps (λ row. row.chain) (λ row. row.tag.hash) t.table hs ws (n ∷ ids)) (row_is)
-    (put.held ids
-    (holds_as (size t.table) ids heads_are (ap (map (λ row. row.chain)) rows_are) (ap (map (λ row. row.tag.hash)) rows_are)
-    (still_kept t c.requires.standing grant.row grant.class c.requires.granted u made.linked _ _ c.args.tag made.described st.indexed))
-    (ap (λ n. count n ids) (row_is) ∙ outside t c.requires.standing grant.row grant.class c.requires.granted u made.linked _ _ c.args.tag made.described st.indexed)) in
+    let kept : (ix : Indexed t) → Keeps (λ row. row.chain) (λ row. row.tag.hash) t.table hs c.insert.new.rows (grant.row ∷ ix.ids) = λ ix.
+    subst (λ n. Keeps (λ row. row.chain) (λ row. row.tag.hash) t.table hs c.insert.new.rows (n ∷ ix.ids)) row_is
+    (put.held ix.ids
+    (holds_as (size t.table) ix.ids heads_are (ap (map (λ row. row.chain)) rows_are) (ap (map (λ row. row.tag.hash)) rows_are)
+    (still_kept t grant.row grant.class c.requires.granted u made.linked _ _ c.args.tag made.described ix))
+    (ap (λ n. count n ix.ids) row_is ∙ outside t grant.row grant.class c.requires.granted u made.linked _ _ c.args.tag made.described ix)) in
     record {
-      standing = ∥∥₁_elim made.sound ∥∥₁_prop (λ z. ∥∥₁_map c.requires.standing (λ st. record {
-        sound = sound_chained u v stays z;
-        indexed = record {
-          ids = grant.row ∷ st.indexed.ids;
-          kept = holds_as (size t.table) (grant.row ∷ st.indexed.ids) (with_items_is t.heads hs heads_long) (ap (map (λ row. row.chain)) out) (ap (map (λ row. row.tag.hash)) out) (kept st);
-          exact = put_exact t c.requires.standing grant.row grant.class c.requires.granted u made.linked _ _ c.args.tag made.described v stays st.indexed;
-        };
-      }));
+      indexed = ∥∥₁_map t.indexed (λ ix. record {
+        ids = grant.row ∷ ix.ids;
+        kept = holds_as (size t.table) (grant.row ∷ ix.ids) (with_items_is t.heads hs heads_long) (ap (map (λ row. row.chain)) out) (ap (map (λ row. row.tag.hash)) out) (kept ix);
+        exact = put_exact t grant.row grant.class c.requires.granted u made.linked _ _ c.args.tag made.described (chained a) (stays a) refl refl ix;
+      });
+    }
+
+pub returns : goal.returns
+returns c =
+    let a = (goal.at.returns c).After-insert in
+    let t = c.args.self.now in
+    let grant = c.args.grant in
+    let u = c.link-row.new.self in
+    let made = c.link-row.ensures in
+    record {
       kept = record {
         layout = made.linked.layout;
         table = refl;
         slots = refl;
-        granted = put_granted t c.requires.standing grant.row grant.class c.requires.granted u made.linked _ _ c.args.tag made.described v stays;
+        granted = put_granted t grant.row grant.class c.requires.granted u made.linked _ _ c.args.tag made.described (chained a) (stays a) refl refl;
       };
-      spent = put_spent t c.requires.standing grant.row grant.class c.requires.granted u made.linked _ _ c.args.tag made.described v stays;
+      spent = put_spent t grant.row grant.class c.requires.granted u made.linked _ _ c.args.tag made.described (chained a) (stays a) refl refl;
       shown = λ setup ks sh num hash home free.
-          put_shown t c.requires.standing grant.row grant.class c.requires.granted u made.linked _ _ c.args.tag made.described v stays setup c.args.memory.now c.link-row.new.memory ks sh num c.args.key.now c.args.data.now made.told.0 made.told.1 made.others home hash free;
+          put_shown t grant.row grant.class c.requires.granted u made.linked _ _ c.args.tag made.described _ (stays a) refl refl setup c.args.memory.now c.link-row.new.memory ks sh num c.args.key.now c.args.data.now made.told.0 made.told.1 made.others home hash free;
     }

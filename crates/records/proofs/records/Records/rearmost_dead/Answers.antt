@@ -1,5 +1,4 @@
-use Rattle.std.proofs.Common.{ℕ, Bool, get_or}
-use mathlib.Core.Logic.{∥∥₁_map}
+use Rattle.std.proofs.Common.{ℕ, Bool, get_or, rules}
 use Rattle.recency.specs.Lists.{rearmost}
 use Rattle.model.specs.Records.{dead, dead_at}
 use Rattle.model.specs.Store.{last}
@@ -11,15 +10,12 @@ use Rattle.records.proofs.Maps.{map_rear_that, rearmost_that_on}
 use Rattle.records.proofs.Picks.{picked_held, picked_shown}
 use Rattle.records.proofs.records.Records.rearmost_dead.Goals as goal
 
-pub rearmost_that-requires : goal.rearmost_that-requires
-rearmost_that-requires c = ∥∥₁_map c.requires.standing (λ s. s.sound)
-
 pub returns : goal.returns
 returns c =
     let s = c.args.self.now.slab in
-    let sound = ∥∥₁_map c.requires.standing (λ st. st.sound) in
     let test : ℕ → Bool = λ i. dead_at c.args.second (get_or (rows_of s) i blank).tag.expiry in
+    let told = c.rearmost_that.ensures test (λ i b k. search rules) in
     record {
-      held = picked_held s sound c.args.class (λ ids. rearmost (keep test ids)) c.rearmost_that.result c.rearmost_that.ensures (rearmost_that_on test);
-      shown = λ setup memory ks. picked_shown s sound c.args.class (λ ids. rearmost (keep test ids)) c.rearmost_that.result c.rearmost_that.ensures (last (dead c.args.second)) setup memory ks (map_rear_that (dead c.args.second) (record_at (layout s) (rows_of s) memory));
+      held = picked_held s c.args.class (λ ids. rearmost (keep test ids)) c.rearmost_that.result told (rearmost_that_on test);
+      shown = λ setup memory ks. picked_shown s c.args.class (λ ids. rearmost (keep test ids)) c.rearmost_that.result told (last (dead c.args.second)) setup memory ks (map_rear_that (dead c.args.second) (record_at (layout s) (rows_of s) memory));
     }

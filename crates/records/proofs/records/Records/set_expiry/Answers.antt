@@ -1,4 +1,3 @@
-use mathlib.Core.Logic.{∥∥₁_map}
 use Rattle.std.proofs.Common.{◌<◌, length, get_or, sym, ap, ◌∙◌, subst, arith}
 use lib.ListN.{length-map}
 use Rattle.slabs.specs.Rows.{blank}
@@ -12,14 +11,10 @@ use Rattle.records.proofs.Chaining.{within}
 use Rattle.records.proofs.Telling.{until, at_column, by_columns, retagged_here, shows_expiry}
 use Rattle.records.proofs.records.Records.set_expiry.Goals as goal
 
-pub tag-tag-requires : goal.tag-tag-requires
-tag-tag-requires c = record { sound = ∥∥₁_map c.requires.standing (λ s. s.sound); held = c.requires.held }
-
 pub retag-requires : goal.retag-requires
 retag-requires c =
     let rs = rows_of c.args.self.now.slab in
     record {
-      standing = c.requires.standing;
       held = c.requires.held;
       hash = ap (λ x. x.hash) (c.tag-tag.ensures blank.tag ∙ at_column (λ row. row.tag) rs c.args.i) ∙ sym (at_column (λ row. row.tag.hash) rs c.args.i);
     }
@@ -34,7 +29,6 @@ returns c =
     subst (λ x. Retagged s t i (until c.args.expiry x)) (c.tag-tag.ensures blank.tag) told in
     let lt : i < length (rows_of s) = rw (length-map (rows_of s) (λ row. row.home)) at (within (homes_of s) i (rw c.requires.held (omega arith))) in
     record {
-      standing = c.retag.ensures.standing;
       kept = c.retag.ensures.kept;
       stays = ap (λ h. get_or h i 0) told.homes_stay ∙ c.requires.held ∙ ap (λ l. held_of (class_at l i)) (sym told.layout_stays);
       shown = λ setup memory ks sh. shows_expiry setup s memory ks sh i c.requires.held lt t c.args.expiry retagged;

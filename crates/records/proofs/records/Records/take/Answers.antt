@@ -1,10 +1,11 @@
-use mathlib.Core.Logic.{∥∥₁_map}
 use Rattle.std.proofs.Common.{refl}
-use Rattle.records.proofs.Granting.{take_standing, take_taken, take_layout, take_only, take_shown, take_room}
+use Rattle.records.proofs.Granting.{take_indexed, take_taken, take_layout, take_only, take_shown, take_room}
 use Rattle.records.proofs.records.Records.take.Goals as goal
 
-pub take-requires : goal.take-requires
-take-requires c = ∥∥₁_map c.requires.standing (λ s. s.sound)
+pub invariant_of-self : goal.invariant_of-self
+invariant_of-self c =
+    let took = c.take.ensures in
+    record { indexed = take_indexed c.args.self.now c.take.new.self c.args.class took.rests c.take.result took.found took.taken }
 
 pub returns : goal.returns
 returns c =
@@ -13,12 +14,11 @@ returns c =
     let new = c.take.new.self in
     let took = c.take.ensures in
     record {
-      standing = take_standing t c.requires.standing new took.sound c.args.class took.rests r took.found took.taken;
-      taken = take_taken t c.requires.standing new took.sound c.args.class took.rests r took.taken;
-      layout = take_layout t c.requires.standing new took.sound c.args.class took.rests r took.taken;
+      taken = take_taken t new c.args.class took.rests r _ took.taken;
+      layout = take_layout t new c.args.class took.rests r took.taken;
       table = refl;
       slots = refl;
-      only = take_only t c.requires.standing new took.sound c.args.class took.rests r took.found took.taken;
-      shown = take_shown t c.requires.standing new took.sound c.args.class took.rests r took.found took.taken;
-      room = take_room t c.requires.standing new took.sound c.args.class took.rests r took.found;
+      only = take_only t new c.args.class took.rests r took.found took.taken;
+      shown = take_shown t new c.args.class took.rests r took.found took.taken;
+      room = take_room t new c.args.class took.rests r took.found;
     }

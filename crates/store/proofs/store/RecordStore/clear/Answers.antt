@@ -1,16 +1,12 @@
 use Rattle.std.proofs.Common.{◌≡◌, Some, None, sym, refl, ap, subst}
 use Rattle.model.specs.Store.{Replaced, held, remove_any}
 use Rattle.store.specs.Showing.{Shows, found_record}
-use Rattle.store.proofs.Shown.{standing}
 use Rattle.store.proofs.store.RecordStore.clear.Goals as goal
-
-pub find-requires : goal.find-requires
-find-requires c = record { standing = standing c.args.self.now; hash = c.requires }
 
 pub returns-in-Some : goal.returns-in-Some
 returns-in-Some c =
     let memory = c.args.memory.now in
-    let key = c.args.key.now in
+    let key = c.args.key.now.bytes.now in
     record {
       kept = c.leave.ensures.kept;
       grants = c.leave.ensures.grants;
@@ -23,7 +19,7 @@ returns-in-Some c =
 pub returns-in_default : goal.returns-in_default
 returns-in_default c =
     let memory = c.args.memory.now in
-    let key = c.args.key.now in
+    let key = c.args.key.now.bytes.now in
     record {
       kept = record { layout = refl; table = refl; slots = refl; granted = λ i class g. g };
       grants = λ k class g. g;

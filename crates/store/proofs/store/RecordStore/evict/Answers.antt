@@ -1,12 +1,8 @@
 use Rattle.std.proofs.Common.{true, None, refl, ap}
 use Rattle.model.specs.Store.{Evicted, rid}
 use Rattle.store.specs.Showing.{found_record}
-use Rattle.store.proofs.Shown.{standing}
 use Rattle.store.proofs.Grants.{made_rid}
 use Rattle.store.proofs.store.RecordStore.evict.Goals as goal
-
-pub rearmost-requires : goal.rearmost-requires
-rearmost-requires c = record { standing = standing c.args.self.now }
 
 pub returns-in_default : goal.returns-in_default
 returns-in_default c =

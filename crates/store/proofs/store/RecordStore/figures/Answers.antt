@@ -1,9 +1,6 @@
 use Rattle.std.proofs.Common.{ap, ◌∙◌, arith}
-use Rattle.store.proofs.Shown.{standing, held_are}
+use Rattle.store.proofs.Shown.{held_are}
 use Rattle.store.proofs.store.RecordStore.figures.Goals as goal
-
-pub free_pages-requires : goal.free_pages-requires
-free_pages-requires c = record { standing = standing c.args.self.now }
 
 pub returns : goal.returns
 returns c = λ setup n memory out s sh few.

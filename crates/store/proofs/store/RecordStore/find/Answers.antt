@@ -1,42 +1,33 @@
 use Rattle.std.proofs.Common.{◌≡◌, true, false, Some, None, sym, refl, ap, ◌∙◌, subst}
+use Rattle.std.specs.Option.{option_map}
 use Rattle.slabs.specs.Slabs.{layout, rows_of}
 use Rattle.model.specs.Records.{Record, dead_at, dead}
 use Rattle.model.specs.Store.{Expired, held}
 use Rattle.records.specs.Reading.{record_at}
-use Rattle.store.specs.Showing.{Shows}
-use Rattle.store.proofs.Shown.{standing}
+use Rattle.store.specs.Showing.{Shows, found_record}
 use Rattle.store.proofs.Finds.{none_left, find_none, find_dead, find_alive}
 use Rattle.store.proofs.store.RecordStore.find.Goals as goal
 
-pub find-requires : goal.find-requires
-find-requires c = record { standing = standing c.args.self.now; hash = c.requires.hash }
-
-pub returns-in_default : goal.returns-in_default
-returns-in_default c =
-    let key = c.args.key.now in
-    record {
-      pages = refl;
-      held = tt;
-      shown = λ setup n s sh.
-          let none : held key s ≡ None = c.in_default.ensures.found setup s.classes sh.records in
-          let same = find_none setup c.args.second key s none in
-          (subst (Shows setup n c.args.self.now c.args.memory.now None) (sym same) sh, ap (held key) same ∙ none);
-    }
-
-pub tag-tag-requires : goal.tag-tag-requires
-tag-tag-requires c = record { standing = standing c.args.self.now; held = c.in-Some.ensures.held }
+pub returns-in_err-row-clause-shown : goal.returns-in_err-row-clause-shown
+returns-in_err-row-clause-shown c = λ setup n s sh.
+    let key = c.args.key.now.bytes.now in
+    let none : held key s ≡ None = c.in_err-row.ensures.found setup s.classes sh.records in
+    let same = find_none setup c.args.second key s none in (
+      subst (Shows setup n c.args.self.now c.args.memory.now None) (sym same) sh,
+      ap (held key) same ∙ none ∙ ap (option_map (found_record c.args.self.now c.args.memory.now)) (sym c.from_residual.ensures),
+    )
 
 pub returns-then-is_dead : goal.returns-then-is_dead
 returns-then-is_dead c =
-    let key = c.args.key.now in
+    let key = c.args.key.now.bytes.now in
     let t = c.args.self.now.records.slab in
     let memory = c.args.memory.now in
-    let r : Record = record_at (layout t) (rows_of t) memory c.in-Some.row in
+    let r : Record = record_at (layout t) (rows_of t) memory c.in_ok-row.row in
     record {
       pages = ap (λ l. l.pages) c.leave.ensures.kept.layout;
       held = tt;
       shown = λ setup n s sh.
-          let found : held key s ≡ Some r = c.in-Some.ensures.found setup s.classes sh.records in
+          let found : held key s ≡ Some r = c.in_ok-row.ensures.found setup s.classes sh.records in
           let is : dead c.args.second r ≡ true = ap (λ tag. dead_at c.args.second tag.expiry) (sym c.tag-tag.ensures) ∙ sym c.is_dead.ensures ∙ c.if-is_dead.true in
           let same = find_dead setup c.args.second key s r found is in
           let after = c.leave.ensures.shown setup n memory None s c.args.second sh in
@@ -45,15 +36,15 @@ returns-then-is_dead c =
 
 pub returns : goal.returns
 returns c =
-    let key = c.args.key.now in
+    let key = c.args.key.now.bytes.now in
     let t = c.args.self.now.records.slab in
     let memory = c.args.memory.now in
-    let r : Record = record_at (layout t) (rows_of t) memory c.in-Some.row in
+    let r : Record = record_at (layout t) (rows_of t) memory c.in_ok-row.row in
     record {
       pages = refl;
-      held = c.in-Some.ensures.held;
+      held = c.in_ok-row.ensures.held;
       shown = λ setup n s sh.
-          let found : held key s ≡ Some r = c.in-Some.ensures.found setup s.classes sh.records in
+          let found : held key s ≡ Some r = c.in_ok-row.ensures.found setup s.classes sh.records in
           let is : dead c.args.second r ≡ false = ap (λ tag. dead_at c.args.second tag.expiry) (sym c.tag-tag.ensures) ∙ sym c.is_dead.ensures ∙ c.if-is_dead.false in
           let same = find_alive setup c.args.second key s r found is in
           (subst (Shows setup n c.args.self.now memory None) (sym same) sh, ap (held key) same ∙ found);

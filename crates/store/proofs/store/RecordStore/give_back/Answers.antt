@@ -1,14 +1,8 @@
 use Rattle.std.proofs.Common.{None, refl, ap, ◌∙◌}
 use Rattle.chained.specs.Chains.{size}
-use Rattle.store.proofs.Shown.{standing, stands_on, shown_as}
+use Rattle.store.proofs.Shown.{shown_as}
 use Rattle.store.proofs.Grants.{none_outstanding}
 use Rattle.store.proofs.store.RecordStore.give_back.Goals as goal
-
-pub give_back-requires : goal.give_back-requires
-give_back-requires c = record { standing = standing c.args.self.now; granted = c.requires.granted }
-
-pub invariant_of-self : goal.invariant_of-self
-invariant_of-self c = record { ok = stands_on c.args.self.now c.give_back.ensures.standing }
 
 pub returns : goal.returns
 returns c =

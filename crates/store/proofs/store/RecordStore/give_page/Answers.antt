@@ -1,14 +1,7 @@
 use Rattle.std.proofs.Common.{refl}
-use Rattle.store.proofs.Shown.{standing, stands_on}
 use Rattle.store.proofs.Grants.{made_given}
 use Rattle.store.proofs.Planned.{has_chunks}
 use Rattle.store.proofs.store.RecordStore.give_page.Goals as goal
-
-pub give_page-requires : goal.give_page-requires
-give_page-requires c = record { standing = standing c.args.self.now }
-
-pub invariant_of-self : goal.invariant_of-self
-invariant_of-self c = record { ok = stands_on c.args.self.now c.give_page.ensures.standing }
 
 pub returns : goal.returns
 returns c =

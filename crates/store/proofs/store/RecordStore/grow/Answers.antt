@@ -1,13 +1,6 @@
 use Rattle.std.proofs.Common.{refl, ap}
-use Rattle.store.proofs.Shown.{standing, stands_on}
 use Rattle.store.proofs.Links.{shown_grown}
 use Rattle.store.proofs.store.RecordStore.grow.Goals as goal
-
-pub grow_after-requires : goal.grow_after-requires
-grow_after-requires c = record { standing = standing c.args.self.now }
-
-pub invariant_of-self : goal.invariant_of-self
-invariant_of-self c = record { ok = stands_on c.args.self.now c.grow_after.ensures.standing }
 
 pub returns : goal.returns
 returns c =

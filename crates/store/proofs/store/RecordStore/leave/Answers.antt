@@ -1,19 +1,14 @@
 use Rattle.std.proofs.Common.{refl}
 use Rattle.store.specs.Counting.{why_of}
-use Rattle.store.proofs.Shown.{standing, stands_on, shown_removed}
+use Rattle.store.proofs.Shown.{shown_removed}
 use Rattle.store.proofs.store.RecordStore.leave.Goals as goal
-
-pub unlink-requires : goal.unlink-requires
-unlink-requires c = record { standing = standing c.args.self.now; held = c.requires }
-
-pub invariant_of-self : goal.invariant_of-self
-invariant_of-self c = record { ok = stands_on c.args.self.now c.unlink.ensures.standing }
 
 pub returns : goal.returns
 returns c =
     let done = c.unlink.ensures in
     record {
       kept = done.kept;
+      freed = done.freed;
       grants = done.grants;
       shown = λ setup n memory out s at sh.
           shown_removed c.args.self.now _ s sh c.args.i c.requires done.kept refl refl refl at (why_of c.args.why) (done.shown setup memory s.classes sh.records) c.left.ensures;

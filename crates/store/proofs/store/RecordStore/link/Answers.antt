@@ -9,14 +9,13 @@ insert-requires c =
     let gone = c.clear.ensures in
     record {
       granted = gone.grants c.args.grant.row c.args.grant.class c.requires.granted;
-      fits = subst (λ l. length c.args.key.now + length c.args.data.now ≤ get_or l.sizes c.args.grant.class 0) (sym gone.kept.layout) c.requires.fits;
+      fits = subst (λ l. length c.args.key.now.bytes.now + length c.args.data.now ≤ get_or l.sizes c.args.grant.class 0) (sym gone.kept.layout) c.requires.fits;
       memory = subst (λ l. 4096 * l.pages ≤ length c.args.memory.now) (sym gone.kept.layout) c.requires.memory;
-      hash = c.requires.hash;
     }
 
 pub returns : goal.returns
 returns c =
-    let key = c.args.key.now in
+    let key = c.args.key.now.bytes.now in
     let fresh = c.args.fresh in
     let r = new_record key c.args.data.now fresh in
     record {

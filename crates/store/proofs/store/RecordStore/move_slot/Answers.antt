@@ -1,13 +1,7 @@
 use Rattle.std.proofs.Common.{None, refl, ap, ◌∙◌}
 use Rattle.chained.specs.Growth.{move_one}
-use Rattle.store.proofs.Shown.{standing, stands_on, shown_as}
+use Rattle.store.proofs.Shown.{shown_as}
 use Rattle.store.proofs.store.RecordStore.move_slot.Goals as goal
-
-pub move_slot-requires : goal.move_slot-requires
-move_slot-requires c = record { standing = standing c.args.self.now }
-
-pub invariant_of-self : goal.invariant_of-self
-invariant_of-self c = record { ok = stands_on c.args.self.now c.move_slot.ensures.standing }
 
 pub returns : goal.returns
 returns c =

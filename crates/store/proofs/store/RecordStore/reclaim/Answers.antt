@@ -1,9 +1,9 @@
-use Rattle.std.proofs.Common.{◌≡◌, ◌+◌, set, None, sym, refl, ap, subst, arith, length-set}
+use Rattle.std.proofs.Common.{◌≡◌, ◌+◌, set, None, sym, refl, ap, subst, arith}
 use Rattle.model.specs.Records.{dead}
 use Rattle.model.specs.Store.{Expired, class_at, last, rid}
 use Rattle.store.specs.Showing.{found_record}
 use Rattle.store.proofs.Soon.{Soon, none_dead, soon_next}
-use Rattle.store.proofs.Shown.{standing, stands_with, has_second, reseconded}
+use Rattle.store.proofs.Shown.{has_second, reseconded}
 use Rattle.store.proofs.Grants.{made_rid}
 use Rattle.store.proofs.store.RecordStore.reclaim.Goals as goal
 
@@ -16,12 +16,6 @@ returns-then-self-class c =
         sh,
       );
     }
-
-pub rearmost_dead-requires : goal.rearmost_dead-requires
-rearmost_dead-requires c = record { standing = standing c.args.self.now }
-
-pub invariant_of-self : goal.invariant_of-self
-invariant_of-self c = record { ok = stands_with c.args.self.now _ (standing c.args.self.now) (length-set c.args.self.now.soonest c.args.class (c.from-in_default.result + 1)) }
 
 pub returns-in_default : goal.returns-in_default
 returns-in_default c =

@@ -1,15 +1,6 @@
 use Rattle.std.proofs.Common.{refl, ap}
-use Rattle.store.proofs.Shown.{standing, stands_with, shown_touched}
+use Rattle.store.proofs.Shown.{shown_touched}
 use Rattle.store.proofs.store.RecordStore.set_expiry.Goals as goal
-
-pub class_of-class-requires : goal.class_of-class-requires
-class_of-class-requires c = record { standing = standing c.args.self.now; held = c.requires.held }
-
-pub set_expiry-requires : goal.set_expiry-requires
-set_expiry-requires c = record { standing = standing c.args.self.now; held = c.requires.held }
-
-pub invariant_of-self : goal.invariant_of-self
-invariant_of-self c = record { ok = stands_with c.args.self.now c.note_expiry.new.soonest c.set_expiry.ensures.standing c.note_expiry.auto.soonest }
 
 pub returns : goal.returns
 returns c =

@@ -3,12 +3,9 @@ use Rattle.chained.specs.Chains.{size}
 use Rattle.slabs.specs.declared.grant.Grant.{Grant}
 use Rattle.slabs.specs.Slabs.{Granted, layout}
 use Rattle.records.specs.declared.records.Records.{Records}
-use Rattle.store.proofs.Shown.{standing, stands_on, shown_as}
+use Rattle.store.proofs.Shown.{shown_as}
 use Rattle.store.proofs.Grants.{outstanding}
 use Rattle.store.proofs.store.RecordStore.take.Goals as goal
-
-pub size-requires : goal.size-requires
-size-requires c = record { standing = standing c.args.self.now }
 
 pub returns-then-need-from : goal.returns-then-need-from
 returns-then-need-from c =
@@ -18,12 +15,6 @@ returns-then-need-from c =
       shown = λ setup n memory s sh. sh;
       room = λ setup n memory s sh num fits. absurd (omega (arith, c.size.ensures, c.from.ensures, c.if-need-from.true, sh.records.cut.sizes c.args.class num));
     }
-
-pub take-requires : goal.take-requires
-take-requires c = record { standing = standing c.args.self.now }
-
-pub invariant_of-self : goal.invariant_of-self
-invariant_of-self c = record { ok = stands_on c.args.self.now c.take.ensures.standing }
 
 -- a chunk of the class is large enough
 fitting : (r : Option Grant) (class goal : ℕ) (old new : Records) → layout new.slab ≡ layout old.slab → goal ≤ get_or (layout old.slab).sizes class 0 → MatchOption r (new ≡ old) (λ grant. (grant.class ≡ class) × Granted new.slab grant) → IfSome r (λ grant. (grant.class ≡ class) × Granted new.slab grant × (goal ≤ get_or (layout new.slab).sizes grant.class 0))

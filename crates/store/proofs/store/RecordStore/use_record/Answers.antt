@@ -2,17 +2,8 @@ use Rattle.std.proofs.Common.{None, sym, refl, ap, ◌∙◌, subst}
 use Rattle.std.proofs.lemmas.Bool.{cond-true, cond-false}
 use Rattle.model.specs.Store.{to_front}
 use Rattle.store.specs.Showing.{Shows, found_record}
-use Rattle.store.proofs.Shown.{standing, stands_on, shown_fronted}
+use Rattle.store.proofs.Shown.{shown_fronted}
 use Rattle.store.proofs.store.RecordStore.use_record.Goals as goal
-
-pub tag-tag-requires : goal.tag-tag-requires
-tag-tag-requires g c = record { standing = standing c.args.self.now; held = c.requires.held }
-
-pub bring_to_front-requires : goal.bring_to_front-requires
-bring_to_front-requires g c = record { standing = standing c.args.self.now; held = c.requires.held }
-
-pub invariant_of-self : goal.invariant_of-self
-invariant_of-self g c = record { ok = stands_on c.args.self.now c.bring_to_front.ensures.standing }
 
 pub returns-then-moves : goal.returns-then-moves
 returns-then-moves g c =

@@ -3,14 +3,7 @@ use Rattle.std.proofs.lemmas.List.{length-take}
 use Rattle.slabs.specs.Rows.{blank}
 use Rattle.slabs.specs.Layouts.{start}
 use Rattle.slabs.specs.Slabs.{layout, rows_of}
-use Rattle.store.proofs.Shown.{standing}
 use Rattle.store.proofs.store.RecordStore.view.Goals as goal
-
-pub tag-tag-requires : goal.tag-tag-requires
-tag-tag-requires c = record { standing = standing c.args.self.now; held = c.requires.held }
-
-pub data-requires : goal.data-requires
-data-requires c = record { standing = standing c.args.self.now; held = c.requires.held }
 
 pub returns : goal.returns
 returns c =
