@@ -111,7 +111,7 @@ impl RecordStore {
         requires short { key_len + data_len < 2 ^ 32 }
         ensures pages { pages_of self.new ≡ pages_of self.old }
         ensures granted { IfOk result (λ grant. HasGrant self.new grant × (key_len + data_len ≤ room_of self.new grant)) }
-        ensures shown { (setup : Setup) (n : ℕ) (memory : List ℕ) (s : Store) → n < 2 ^ 63 → Shows setup n self.old memory None s → Granting setup (meaning P.Policy.bears (P.Policy.evicting policy.now) (P.Policy.moving policy.now)) second (class_of (need_of key_len data_len) setup.sizes) n self.new memory s result }
+        ensures shown { (setup : Setup) (n : ℕ) (memory : List ℕ) (s : Store) → n < 2 ^ 63 → Shows setup n self.old memory None s → Granting setup (meaning P.Policy.NUMBER (P.Policy.evicting policy.now) (P.Policy.moving policy.now)) second (class_of (need_of key_len data_len) setup.sizes) n self.new memory s result }
     {
         let need = key_len + data_len;
         self.grant_room(need as u64, second, policy.evicts())

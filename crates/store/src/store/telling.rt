@@ -25,7 +25,7 @@ impl RecordStore {
     pub fn use_record<P: Policy>(&mut self, found: Found, policy: &P, second: u32)
         requires held { Held self.old found }
         ensures pages { pages_of self.new ≡ pages_of self.old }
-        ensures shown { (setup : Setup) (n : ℕ) (memory : List ℕ) (s : Store) → Shows setup n self.old memory None s → Shows setup n self.new memory None (use_record setup (meaning P.Policy.bears (P.Policy.evicting policy.now) (P.Policy.moving policy.now)) second (found_record self.old memory found) s) }
+        ensures shown { (setup : Setup) (n : ℕ) (memory : List ℕ) (s : Store) → Shows setup n self.old memory None s → Shows setup n self.new memory None (use_record setup (meaning P.Policy.NUMBER (P.Policy.evicting policy.now) (P.Policy.moving policy.now)) second (found_record self.old memory found) s) }
     {
         let tag = self.records.tag(found.row);
         if policy.moves(second, tag.moved) {
