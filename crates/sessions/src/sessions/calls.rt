@@ -81,9 +81,7 @@ impl Sessions {
         if self.is_open(caller) {
             return Err(Refusal::CallerOpen);
         }
-        let Some(i) = self.spare_row() else {
-            return Err(Refusal::SessionsFull);
-        };
+        let i = self.spare_row().ok_or(Refusal::SessionsFull)?;
         self.roster
             .enter(&mut self.slots, &mut self.rows, i, caller, second);
         Ok(())
