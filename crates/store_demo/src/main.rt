@@ -82,9 +82,7 @@ fn play(rt: &HostRuntime, desk: &mut Desk) -> anyhow::Result<()> {
 }
 
 fn run(rt: &HostRuntime) -> anyhow::Result<()> {
-    let Ok(plan) = Plan::new(96, 125) else {
-        return Ok(());
-    };
+    let plan = Plan::new(96, 125)?;
     let memory = vec![in rt.alloc(); 0xaau8; 4096]?;
     let rows = vec![in rt.alloc(); Row::blank(); 85]?;
     let slots = vec![in rt.alloc(); 7u32; 64]?;

@@ -36,6 +36,7 @@ impl Tally {
         ensures least { ClassPages self.now class result }
         ensures bound { result < 2 ^ 64 }
     {
+        // by `map_or` the closure would have to be told anew that the plan has the class
         match self.plan.chunks_per_page(class) {
             Some(chunks) => pages_for(self.sums[class - 1].records, chunks),
             None => 0,

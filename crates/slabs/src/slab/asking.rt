@@ -69,11 +69,8 @@ impl Slab {
         ensures ahead { Holds self.now i → (ls : ℕ → List ℕ) → Lists self.now ls → (a b : List ℕ) → ls (held_of (class_at (layout self.now) i)) ≡ a ++ i ∷ b → result ≡ rearmost a }
         ensures none { (Holds self.now i → ⊥) → result ≡ None }
     {
-        if self.holds(i) {
-            self.ahead_of(i)
-        } else {
-            None
-        }
+        self.held(i)?;
+        self.ahead_of(i)
     }
 
     /// Fills a granted chunk with a key and its data: it becomes the front record of its class. Gives its row, or the
