@@ -1,8 +1,8 @@
 -- A layout whose classes keep their frames.
-use Rattle.std.proofs.Common.{◌≡◌, ℕ, ◌<◌, List, map, length, get_or, set, refl, ap, ◌∙◌}
-use Rattle.recency.proofs.Columns.{column_kept, column_of_rest}
+use Rattle.std.proofs.Common.{◌≡◌, ℕ, List, map, refl, ap, ◌∙◌}
+use Rattle.recency.proofs.Columns.{column_of_rest}
 use Rattle.slabs.specs.declared.class.Class.{Class}
-use Rattle.slabs.specs.Classes.{frame, no_class}
+use Rattle.slabs.specs.Classes.{frame}
 use Rattle.slabs.specs.Layouts.{Layout}
 use Rattle.slabs.specs.Slabs.{cut}
 
@@ -16,7 +16,3 @@ module _ (classes classes' : List Class) (owners : List ℕ) (given pages : ℕ)
       ap (λ sizes. from sizes (map (λ x. x.chunks) classes') (map (λ x. x.pages) classes')) (column_of_rest frame (λ x. x.size) (λ _. refl) classes classes' e)
       ∙ ap (λ chunks. from (map (λ x. x.size) classes) chunks (map (λ x. x.pages) classes')) (column_of_rest frame (λ x. x.chunks) (λ _. refl) classes classes' e)
       ∙ ap (λ shares. from (map (λ x. x.size) classes) (map (λ x. x.chunks) classes) shares) (column_of_rest frame (λ x. x.pages) (λ _. refl) classes classes' e)
-
--- one class was written, and keeps its frame
-pub cut_kept : (classes : List Class) (owners : List ℕ) (given pages : ℕ) (c : ℕ) (cls : Class) → c < length classes → frame cls ≡ frame (get_or classes c no_class) → cut (set classes c cls) owners given pages ≡ cut classes owners given pages
-cut_kept classes owners given pages c cls lt e = cut_same classes (set classes c cls) owners given pages (column_kept frame classes c no_class cls lt e)

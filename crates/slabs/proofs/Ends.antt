@@ -3,7 +3,6 @@ use Rattle.std.proofs.Common.{◌≡◌, ℕ, ◌+◌, ◌*◌, ◌/◌, ◌%◌
 use native.Mathlib.Bridge.{le_prop}
 use mathlib.Core.Logic.{∥∥₁_elim}
 use lib.ListN.{length-map}
-use Rattle.std.proofs.lemmas.List.{get_or_past}
 use Rattle.std.proofs.lemmas.Bool.{cases_lt}
 use Rattle.std.proofs.lemmas.Bool.Decides.{nat_tests}
 use Rattle.recency.specs.Numbers.{count}
@@ -61,34 +60,16 @@ module _ (s : Slab) where
       let down : 33 ≤ length s.classes.all = ∥∥₁_elim s.ok le_prop (λ z. let c = z.placed.classes.0 in omega (arith, length-map s.classes.all (λ x. x.size))) in
       omega arith
 
-  pub class_within : (class : ℕ) → class < 33 → class < length s.classes.all
-  class_within class few = omega (arith, classes_long)
-
-  -- a page past the most has no owner
-  pub no_owner_past : (p : ℕ) → 256 ≤ p → get_or s.owners p 0 ≡ 0
-  no_owner_past p past =
-      let low : get_or s.owners p 0 ≤ 0 = ∥∥₁_elim s.ok le_prop (λ z. let e = get_or_past s.owners p 0 (omega (arith, z.placed.classes.3)) in omega arith) in
-      omega arith
-
   pub owners_few : (p : ℕ) → get_or s.owners p 0 < 33
   owners_few p = ∥∥₁_elim s.ok le_prop (λ z. z.placed.owned p)
 
   pub page_of_row : (i : ℕ) → i < length (rows_of s) → i / 85 < 256
   page_of_row i w = ∥∥₁_elim s.ok le_prop (λ z. let r = z.placed.rows in let f = z.placed.few in let m = length-map (rows_of s) (λ row. row.home) in omega arith)
 
-  pub no_size_past : (class : ℕ) → 33 ≤ class → get_or (layout s).sizes class 0 ≡ 0
-  no_size_past class far = get_or_past (layout s).sizes class 0 (∥∥₁_elim s.ok le_prop (λ z. let c = z.placed.classes.0 in omega arith))
-
   -- the page and the chunk of a row that is in a list
   module _ (i : ℕ) (some : 0 < get_or (homes_of s) i 0) where
     pub listed_within : i < length (rows_of s)
     listed_within = ∥∥₁_elim s.ok le_prop (λ z. let w = home_within (layout s) (homes_of s) z.placed i some in omega (arith, length-map (rows_of s) (λ row. row.home)))
-
-    pub page_few : i / 85 < 256
-    page_few = page_of_row i listed_within
-
-    pub owner_few : class_at (layout s) i < 33
-    owner_few = owners_few (i / 85)
 
     pub chunk_inside : i % 85 * size_at (layout s) i + size_at (layout s) i ≤ 4096
     chunk_inside = ∥∥₁_elim s.ok le_prop (λ z. z.placed.inside (class_at (layout s) i) (i % 85) (home_chunk (layout s) (homes_of s) z.placed i some))

@@ -11,6 +11,5 @@ pub mod Pages
 pub mod Opening
 pub mod Shifts
 pub mod Walks
-pub mod Answering
 pub mod Lending
 pub mod Making

@@ -202,12 +202,6 @@ module _ (s : Slab) where
   pub class_of_chunks : (class : ℕ) → 0 < get_or (layout s).chunks class 0 → class < 33
   class_of_chunks class some = ⊎_elim (λ lt. lt) (λ past. absurd (omega (arith, classes_few class past))) (cases_lt class 33)
 
-  pub no_share_past : (class : ℕ) → 33 ≤ class → get_or (layout s).shares class 0 ≡ 0
-  no_share_past class far = get_or_past (layout s).shares class 0 (∥∥₁_elim s.ok le_prop (λ z. let c = z.placed.classes.2 in omega arith))
-
-  pub given_few : s.given ≤ s.pages
-  given_few = ∥∥₁_elim s.ok le_prop (λ z. z.placed.in_order)
-
   -- the counts of a class are those of its chunks
   pub counts_whole : (class : ℕ) → class < 33 → count_at s.classes.all class Free + count_at s.classes.all class Granted + count_at s.classes.all class Held ≡ get_or (layout s).shares class 0 * get_or (layout s).chunks class 0
   counts_whole class few =

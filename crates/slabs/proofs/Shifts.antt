@@ -1,5 +1,5 @@
 -- For the layers above: single lists after a step, and rows whose chains alone were written.
-use Rattle.std.proofs.Common.{◌≡◌, ℕ, zero, suc, ◌+◌, ◌<◌, eqb, List, ◌∷◌, map, get_or, Some, sym, refl, ap, ◌∙◌, arith}
+use Rattle.std.proofs.Common.{◌≡◌, ℕ, zero, suc, ◌+◌, ◌<◌, eqb, List, ◌∷◌, map, get_or, Some, sym, refl, ap, ◌∙◌, subst, arith}
 use Rattle.std.proofs.lemmas.Bool.{eq-eqb, ne_eqb, cond-true, cond-false}
 use Rattle.std.proofs.lemmas.List.{get_or-set_other}
 use Rattle.std.proofs.lemmas.Bool.Decides.{nat_tests}
@@ -13,7 +13,7 @@ use Rattle.slabs.specs.declared.slab.Slab.{Slab}
 use Rattle.slabs.specs.Rows.{homes, rest, rests}
 use Rattle.slabs.specs.Layouts.{Layout, class_at, start}
 use Rattle.slabs.specs.Lists.{Family, held_of, into, out_of, shift, to_front, stocked}
-use Rattle.slabs.specs.Slabs.{rows_of, homes_of, layout, Lists, InOrder, Shifted, Holds}
+use Rattle.slabs.specs.Slabs.{rows_of, homes_of, layout, Lists, Sound, InOrder, Shifted, Holds}
 use Rattle.slabs.specs.Records.{bytes_at, key_lens, data_lens, key_of, data_of}
 use Rattle.slabs.proofs.Families.{family_as, present}
 use Rattle.slabs.proofs.Ends.{class_is}
@@ -95,3 +95,13 @@ module _ (classes : List Class) (rows rows' : List Row) (next : map (λ r. r.nex
 
   pub order_rechained : (l : Layout) → key_lens rows' ≡ key_lens rows → data_lens rows' ≡ data_lens rows → InOrder classes rows l → InOrder classes rows' l
   order_rechained l keys blocks z = order_same classes classes rows rows' l z family_rechained stay (λ j class held. let a = spans_stay rows rows' keys blocks j in let f = z.fitting j class held in omega arith)
+
+-- and so of two slabs, the rows of one of which are those of the other with other chains
+module _ (s t : Slab) (classes : t.classes ≡ s.classes) (next : map (λ r. r.next) (rows_of t) ≡ map (λ r. r.next) (rows_of s)) (prev : map (λ r. r.prev) (rows_of t) ≡ map (λ r. r.prev) (rows_of s)) (homes : homes_of t ≡ homes_of s) where
+  pub lists_rechained : (ls : ℕ → List ℕ) → Lists s ls → Lists t ls
+  lists_rechained ls f = subst (λ cs. Family cs.all (rows_of t) ls) (sym classes) (family_rechained s.classes.all (rows_of s) (rows_of t) next prev homes ls f)
+
+  pub sound_rechained : layout t ≡ layout s → key_lens (rows_of t) ≡ key_lens (rows_of s) → data_lens (rows_of t) ≡ data_lens (rows_of s) → Sound s → Sound t
+  sound_rechained same keys blocks z =
+      subst (λ l. InOrder t.classes.all (rows_of t) l) (sym same)
+      (subst (λ cs. InOrder cs.all (rows_of t) (layout s)) (sym classes) (order_rechained s.classes.all (rows_of s) (rows_of t) next prev homes (layout s) keys blocks z))

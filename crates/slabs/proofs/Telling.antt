@@ -9,7 +9,7 @@ use Rattle.recency.proofs.Columns.{column_of_rest}
 use Rattle.slabs.specs.declared.row.Row.{Row}
 use Rattle.slabs.specs.declared.row.Tag.{Tag}
 use Rattle.slabs.specs.declared.slab.Slab.{Slab}
-use Rattle.slabs.specs.Rows.{homes, rest, rests}
+use Rattle.slabs.specs.Rows.{blank, homes, rest, rests}
 use Rattle.slabs.specs.Lists.{held_of}
 use Rattle.slabs.specs.Layouts.{Layout, Fitting, start, size_at}
 use Rattle.slabs.specs.Slabs.{rows_of, homes_of, spans_of, layout, Holds}
@@ -22,6 +22,12 @@ pub span_sum : (rows : List Row) (i : ℕ) → get_or (spans_of rows) i 0 ≡ ge
 span_sum [] i = omega arith
 span_sum (row ∷ rows) zero = refl
 span_sum (row ∷ rows) (suc i) = span_sum rows i
+
+-- the lengths that a row has, or a blank one past the last
+pub lens_of_row : (rows : List Row) (i : ℕ) → ((get_or rows i blank).key_len ≡ get_or (key_lens rows) i 0) × ((get_or rows i blank).data_len ≡ get_or (data_lens rows) i 0)
+lens_of_row [] i = (refl, refl)
+lens_of_row (row ∷ rows) zero = (refl, refl)
+lens_of_row (row ∷ rows) (suc i) = lens_of_row rows i
 
 -- the lists took the row on, and it tells the same
 pub described_rests : (rows mid rows' : List Row) (i k d : ℕ) (tag : Tag) → rests rows' ≡ rests mid → Described rows mid i k d tag → Described rows rows' i k d tag

@@ -1,7 +1,7 @@
 -- A walk from the back of a list: what lies behind has been looked at.
 use Rattle.std.proofs.Common.{◌≡◌, ℕ, ◌+◌, ◌<◌, ◌≤◌, Bool, true, false, cond, List, [], ◌∷◌, ◌++◌, map, length, get_or, Some, None, Option, unwrap_or, sym, refl, ap, ◌∙◌, subst, arith, length-append}
 use lib.ListN.{length-map}
-use Rattle.std.proofs.lemmas.List.{append_assoc, append-nil}
+use Rattle.std.proofs.lemmas.List.{append_assoc}
 use Rattle.std.proofs.lemmas.Bool.{cond-true, cond-false}
 use Rattle.recency.specs.Numbers.{none, count}
 use Rattle.recency.specs.Lists.{rearmost, last, Prevs}
@@ -59,9 +59,6 @@ none_left : (a : List ℕ) → None ≡ rearmost a → a ≡ []
 none_left [] e = refl
 none_left (x ∷ a) e = let z : ◌≡◌ {A = ℕ} 0 1 = cc in absurd (omega arith)
 
-pub walk_starts : (says : Row → Bool → Type 0) (rows : List Row) (xs : List ℕ) (at : Option ℕ) → at ≡ rearmost xs → Walked xs at (NonePicked says rows)
-walk_starts says rows xs at e = record { ahead = xs; behind = []; parts = sym (append-nil xs); at_is = e; none_behind = λ _ _. refl }
-
 module _ (says : Row → Bool → Type 0) (rows : List Row) (xs : List ℕ) where
   pub walk_in : (i : ℕ) → Walked xs (Some i) (NonePicked says rows) → 0 < count i xs
   walk_in i w = let a = rearmost_in w.ahead i w.at_is in let b = count_append i w.ahead w.behind in let c = ap (λ ys. count i ys) w.parts in omega arith
@@ -71,11 +68,6 @@ module _ (says : Row → Bool → Type 0) (rows : List Row) (xs : List ℕ) wher
   walk_parts i w = let r = rear_parts w.ahead i w.at_is in w.parts ∙ ap (λ ys. ys ++ w.behind) r.1 ∙ append_assoc r.0 (i ∷ []) w.behind
 
   module _ (picks : ℕ → Bool) (same : Picks says rows picks) where
-    pub walk_ends : Walked xs None (NonePicked says rows) → None ≡ rearmost (keep picks xs)
-    walk_ends w =
-        let gone = none_left w.ahead w.at_is in
-        sym (ap (λ ys. rearmost (keep picks ys)) (w.parts ∙ ap (λ ys. ys ++ w.behind) gone) ∙ ap rearmost (w.none_behind picks same))
-
     pub walk_finds : (i : ℕ) → picks i ≡ true → Walked xs (Some i) (NonePicked says rows) → Some i ≡ rearmost (keep picks xs)
     walk_finds i pass w =
         let r = rear_parts w.ahead i w.at_is in

@@ -17,6 +17,7 @@ pub struct Classes {
     pub all: [Class; 33],
 }
 
+// Rows are lent to each call, so what ties the classes to them (`lists`, `within`, `home`) stands at the calls: no type holds both.
 impl Classes {
     // The classes of a plan, with no pages.
     pub fn planned(plan: &Plan) -> Classes
@@ -28,7 +29,7 @@ impl Classes {
         }
     }
 
-    // Puts a row that is in no list at the front of a list of a class.
+    // Puts a row that is in no list at the front of a list of a class. `Class::enter` sees one class, and this the lists of all.
     fn enter(&mut self, rows: &mut [Row], class: usize, stand: Stand, i: u32)
         requires class { class < 33 }
         requires within { i < length rows.old }

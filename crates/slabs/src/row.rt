@@ -20,6 +20,7 @@ pub struct Tag {
 }
 
 /// One row for each chunk that a page can have. The row names the list that it is in.
+// Rows and lists are named by number, 0 for no list: rows lie in fixed memory that their owner hands over, so they stay small.
 #[derive(Clone, Copy, Default)]
 pub struct Row {
     pub next: u32,

@@ -28,6 +28,7 @@ const PAGE: usize = 4096;
 pub struct Slab {
     pub rows: Vec<Row>,
     classes: Classes,
+    // The class of each page, 0 for none; as many as `given` have one. Fixed memory: a page is given with nothing allocated.
     owners: [u8; 256],
     given: u32,
     pages: u32,

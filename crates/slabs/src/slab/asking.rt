@@ -23,6 +23,7 @@ fn cut(bytes: &[u8], from: usize, len: u32) -> &[u8]
     &bytes[at..end]
 }
 
+// Most stand beside a function that has the caller know of the record: one of the two for each caller, and neither fails.
 impl Slab {
     // The row, if it holds a record.
     fn held(&self, i: u32) -> Option<&Row>

@@ -70,6 +70,7 @@ impl Slab {
         self.classes.refresh(&mut self.rows, class, Stand::Held, i);
     }
 
+    // `rearmost` and `foremost` are the two ends of a list, as `back` and `front` are: one function for both would take a flag.
     /// The record at the back of a class, if it has one.
     pub fn rearmost(&self, class: usize) -> Option<u32>
         ensures { (ls : ℕ → List ℕ) → Lists self.now ls → result ≡ rearmost (ls (held_of class)) }

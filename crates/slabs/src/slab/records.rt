@@ -31,15 +31,14 @@ fn describe_row(rows: &mut [Row], i: u32, key_len: u32, data_len: u32, tag: Tag)
     ensures homes { homes rows.new ≡ homes rows.old }
     ensures described { Described rows.old rows.new i key_len data_len tag }
 {
-    let row = rows[i as usize];
-    rows[i as usize] = Row {
-        key_len,
-        data_len,
-        tag,
-        ..row
-    };
+    let row = &mut rows[i as usize];
+    row.key_len = key_len;
+    row.data_len = data_len;
+    row.tag = tag;
 }
 
+// Page memory is lent to each call, and a record is named by a row of a slab that changes, so what is asked of them stands at the
+// calls: no type holds both.
 impl Slab {
     // Has the row of a chunk tell of a record, which fits the chunk if the row holds it already.
     fn describe(&mut self, i: u32, key_len: u32, data_len: u32, tag: Tag)

@@ -1,4 +1,4 @@
-use Rattle.std.proofs.Common.{◌≡◌, ◌+◌, ◌≤◌, length, get_or, set, sym, refl, ap, ◌∙◌, subst, arith}
+use Rattle.std.proofs.Common.{◌≡◌, ◌+◌, ◌<◌, ◌≤◌, length, get_or, set, sym, refl, ap, ◌∙◌, subst, arith}
 use lib.ListN.{length-map}
 use Rattle.std.proofs.lemmas.List.{get_or-set_same}
 use Rattle.slabs.specs.declared.class.Stand.TheVariants.{Granted, Held}
@@ -6,10 +6,36 @@ use Rattle.slabs.specs.Layouts.{start, size_at, class_at}
 use Rattle.slabs.specs.Lists.{held_of}
 use Rattle.slabs.specs.Slabs.{rows_of, homes_of, layout}
 use Rattle.slabs.specs.Records.{Written}
-use Rattle.slabs.proofs.Ends.{class_is, listed_within, size_of_class, chunk_there, record_fits, lie_apart}
+use Rattle.slabs.proofs.Ends.{class_is, listed_within, page_within, chunk_inside, size_of_class, chunk_there, record_fits, lie_apart}
 use Rattle.slabs.proofs.Bytes.{chunk_kept}
 use Rattle.slabs.proofs.Telling.{span_sum, key_len_there, data_len_there, described_rests, record_kept, record_there}
 use Rattle.slabs.proofs.slab.Slab.link.Goals as goal
+
+pub write_record-requires : goal.write_record-requires
+write_record-requires c =
+    let s = c.args.self.now in
+    let i = c.args.grant.row in
+    let some : 0 < get_or (homes_of s) i 0 = omega (arith, c.requires.granted) in
+    let inside = chunk_inside s i some in
+    let page = page_within s i some in
+    let size = size_of_class s i c.args.grant.class Granted c.requires.granted in
+    omega (arith, c.requires.fits, c.requires.memory, c.start-at.ensures)
+
+pub overflow_cast-key : goal.overflow_cast-key
+overflow_cast-key c =
+    let s = c.args.self.now in
+    let i = c.args.grant.row in
+    let inside = chunk_inside s i (omega (arith, c.requires.granted)) in
+    let size = size_of_class s i c.args.grant.class Granted c.requires.granted in
+    omega (arith, c.requires.fits)
+
+pub overflow_cast-block : goal.overflow_cast-block
+overflow_cast-block c =
+    let s = c.args.self.now in
+    let i = c.args.grant.row in
+    let inside = chunk_inside s i (omega (arith, c.requires.granted)) in
+    let size = size_of_class s i c.args.grant.class Granted c.requires.granted in
+    omega (arith, c.requires.fits)
 
 pub shift-requires-clause-fits : goal.shift-requires-clause-fits
 shift-requires-clause-fits c = λ _.
