@@ -1,5 +1,5 @@
 -- Lists of records that are read off lists of row numbers. Assumes nothing.
-use Rattle.std.proofs.Common.{◌≡◌, ℕ, ◌+◌, ◌≤◌, Bool, true, false, cond, not, eqb, List, [], ◌∷◌, ◌++◌, map, Some, None, filter, Option, sym, refl, ap, ◌∙◌, subst, arith}
+use Rattle.std.proofs.Common.{◌≡◌, ℕ, ◌+◌, ◌≤◌, Bool, true, false, cond, not, eqb, List, [], ◌∷◌, map, Some, None, filter, Option, sym, refl, ap, ◌∙◌, subst, arith}
 use Rattle.std.specs.Option.{option_map}
 use Rattle.std.proofs.lemmas.Bool.{both_ways, eq-eqb, eqb-true, eqb-false}
 use Rattle.recency.specs.Numbers as rows
@@ -106,11 +106,6 @@ last_from f i (k ∷ ids) = ap (λ o. or_else o (Some (f i))) (last_from f k ids
 pub map_rear : (f : ℕ → Record) (ids : List ℕ) → last (λ _. true) (map f ids) ≡ option_map f (rearmost ids)
 map_rear f [] = refl
 map_rear f (i ∷ ids) = last_from f i ids
-
--- a walk from the back: none behind passes, and this one does
-pub walk_found : (p : Record → Bool) (f : ℕ → Record) (a : List ℕ) (i : ℕ) (b : List ℕ) → p (f i) ≡ true → last p (map f b) ≡ None → last p (map f (a ++ i ∷ b)) ≡ Some (f i)
-walk_found p f [] i b passes no_more = rw (no_more, passes)
-walk_found p f (k ∷ a) i b passes no_more = rw (walk_found p f a i b passes no_more)
 
 -- the rearmost of the rows that pass a test has the rearmost record that passes it
 one_more_behind : (f : ℕ → Record) (i : ℕ) (ids : List ℕ) → option_map f (rearmost (i ∷ ids)) ≡ or_else (option_map f (rearmost ids)) (Some (f i))
