@@ -14,8 +14,7 @@ use Rattle.slabs.specs.declared.slab.Slab.{Slab}
 use Rattle.slabs.specs.Rows.{rest, rests}
 use Rattle.slabs.specs.Lists.{held_of, granted_of, free_of, shift}
 use Rattle.slabs.specs.Layouts.{class_at}
-use Rattle.slabs.specs.Slabs as slab
-use Rattle.slabs.specs.Slabs.{Sound, Taken, Lists, Shifted, Holds, rows_of, homes_of, layout}
+use Rattle.slabs.specs.Slabs.{Taken, Lists, Shifted, Holds, rows_of, homes_of, layout}
 use Rattle.slabs.proofs.Ends.{none_in, beyond, names, foremost_in}
 use Rattle.slabs.proofs.Families.{absent}
 use Rattle.slabs.proofs.Pages.{counts_whole, classes_few}
@@ -29,7 +28,7 @@ use Rattle.records.specs.Kept.{NoGrant, OnlyGrant}
 use Rattle.records.specs.Reading.{record_at}
 use Rattle.records.specs.Showing.{Cut, ShowsRecords}
 use Rattle.records.proofs.Chaining.{within}
-use Rattle.records.proofs.Indexing.{IndexesAs, unchanged, reindexed_by}
+use Rattle.records.proofs.Indexing.{IndexesAs, reindexed_by}
 use Rattle.records.proofs.Maps.{map_same}
 use Rattle.records.proofs.Turns.{told, same_records}
 
@@ -178,14 +177,6 @@ module _ (t : Records) (new : Slab) (class : ℕ) (rests_are : rests (rows_of ne
   pub take_indexed : (r : Option Grant) → Found r → MatchOption r (new ≡ t.slab) (λ grant. Taken t.slab new class grant) → IndexesAs t new
   take_indexed None found same = subst (IndexesAs t) (sym same) t.indexed
   take_indexed (Some grant) found taken = took_indexed grant found taken
-
-  pub take_taken : (r : Option Grant) (indexed : IndexesAs t new) → MatchOption r (new ≡ t.slab) (λ grant. Taken t.slab new class grant) → MatchOption r (record { slab = new; table = t.table; heads = t.heads; indexed = indexed } ≡ t) (λ grant. (grant.class ≡ class) × slab.Granted new grant)
-  take_taken None indexed same = unchanged t new same indexed
-  take_taken (Some grant) indexed taken = (taken.of, taken.granted)
-
-  pub take_layout : (r : Option Grant) → MatchOption r (new ≡ t.slab) (λ grant. Taken t.slab new class grant) → layout new ≡ layout t.slab
-  take_layout None same = ap layout same
-  take_layout (Some grant) taken = taken.shifted.layout
 
   pub take_only : (r : Option Grant) → Found r → MatchOption r (new ≡ t.slab) (λ grant. Taken t.slab new class grant) → NoGrant t.slab → IfSome r (λ grant. OnlyGrant new grant)
   take_only None found same none = tt

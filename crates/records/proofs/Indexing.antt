@@ -1,5 +1,5 @@
 -- The table holds the same rows where lists change only their order. Assumes nothing.
-use Rattle.std.proofs.Common.{◌≡◌, ℕ, cond, eqb, get_or, sym, refl, ap, ◌∙◌, subst, vec_items, ⊎_elim}
+use Rattle.std.proofs.Common.{◌≡◌, ℕ, cond, eqb, get_or, sym, refl, ap, ◌∙◌, vec_items, ⊎_elim}
 use mathlib.Core.Logic.{∥∥₁_map, ∥∥₁_elim, ∥∥₁_prop}
 use Rattle.std.proofs.lemmas.Bool.{cases_eq, eq-eqb, ne_eqb}
 use Rattle.recency.proofs.Columns.{column_of_rest}
@@ -21,12 +21,6 @@ standing t = ∥∥₁_elim t.slab.ok ∥∥₁_prop (λ sound. ∥∥₁_map t.
 -- the rows hold the same records, with the same hashes, in the same chains
 abbrev pub IndexesAs : Records → Slab → Type 0
 IndexesAs t slab = ∥ Indexes (rows_of slab) (layout slab) t.table (vec_items t.heads) ∥₁
-
--- the records are as they were where their slab is
-pub unchanged : (t : Records) (slab : Slab) → slab ≡ t.slab → (indexed : IndexesAs t slab) → record { slab = slab; table = t.table; heads = t.heads; indexed = indexed } ≡ t
-unchanged t slab e =
-    subst (λ s. (indexed : IndexesAs t s) → record { slab = s; table = t.table; heads = t.heads; indexed = indexed } ≡ t) (sym e)
-    (λ indexed. ap (λ z. record { slab = t.slab; table = t.table; heads = t.heads; indexed = z }) (∥∥₁_prop indexed t.indexed))
 
 -- two tests that say the same
 same_test : (a b c d : ℕ) → (a ≡ b → c ≡ d) → (c ≡ d → a ≡ b) → eqb a b ≡ eqb c d

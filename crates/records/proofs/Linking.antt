@@ -54,9 +54,6 @@ module _ (t : Records) (i class : ℕ) (granted : get_or (homes_of t.slab) i 0 �
   pub row_there : i < length (rows_of s)
   row_there = rw (length-map (rows_of s) (λ row. row.home)) at in_range
 
-  pub row_still : i < length (rows_of u)
-  row_still = omega (arith, row_there, ap length told_of.chains_stay, length-map (rows_of u) (λ row. row.chain), length-map (rows_of s) (λ row. row.chain))
-
   was_of : class_at (layout s) i ≡ class
   was_of = class_is s i class Granted granted
 

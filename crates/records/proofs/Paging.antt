@@ -1,5 +1,5 @@
 -- What is shown when a page is given to a class: the class has one page more. Assumes nothing.
-use Rattle.std.proofs.Common.{◌≡◌, ℕ, ◌+◌, ◌*◌, ◌/◌, ◌%◌, ◌<◌, ◌≤◌, Bool, true, false, cond, ◌&&◌, ltb, List, map, length, get_or, MatchBool, sym, refl, ap, ◌∙◌, subst, ⊎_elim, arith}
+use Rattle.std.proofs.Common.{◌≡◌, ℕ, ◌+◌, ◌*◌, ◌/◌, ◌%◌, ◌<◌, ◌≤◌, Bool, true, false, ◌&&◌, ltb, List, map, length, get_or, MatchBool, sym, refl, ap, ◌∙◌, subst, ⊎_elim, arith}
 use mathlib.Core.HLevel.{⊥_prop}
 use mathlib.Core.Logic.{∥∥₁_elim}
 use lib.ListN.{length-map}
@@ -25,7 +25,7 @@ use Rattle.records.specs.declared.records.Records.{Records}
 use Rattle.records.specs.Kept.{GrantedTo}
 use Rattle.records.specs.Reading.{record_of, record_at, shown_class, ShowsClasses}
 use Rattle.records.specs.Showing.{Cut, HasChunks, ShowsRecords}
-use Rattle.records.proofs.Indexing.{IndexesAs, unchanged, reindexed_by}
+use Rattle.records.proofs.Indexing.{IndexesAs, reindexed_by}
 use Rattle.records.proofs.Leaving.{names_on}
 use Rattle.records.proofs.Maps.{map_same}
 use Rattle.records.proofs.Turns.{told, same_records}
@@ -166,14 +166,6 @@ module _ (t : Records) (new : Slab) (class : ℕ) (rests_are : rests (rows_of ne
   pub gave_indexed : (r : Bool) → Answer r → Gave r → IndexesAs t new
   gave_indexed true e g = page_indexed t new class g rests_are (a_chunk e) (a_page e)
   gave_indexed false e g = subst (IndexesAs t) (sym g) t.indexed
-
-  pub gave_pages : (r : Bool) → Gave r → (new.pages ≡ t.slab.pages) × (new.given ≡ cond r (t.slab.given + 1) t.slab.given)
-  gave_pages true g = (ap (λ l. l.pages) g.layout, ap (λ l. l.given) g.layout)
-  gave_pages false g = (ap (λ s. s.pages) g, ap (λ s. s.given) g)
-
-  pub gave_same : (indexed : IndexesAs t new) (r : Bool) → Gave r → r ≡ false → record { slab = new; table = t.table; heads = t.heads; indexed = indexed } ≡ t
-  gave_same indexed true g e = absurd (true≢false e)
-  gave_same indexed false g e = unchanged t new g indexed
 
   pub gave_granted : (r : Bool) → Answer r → Gave r → (i to : ℕ) → GrantedTo new i to → GrantedTo t.slab i to
   gave_granted true e g i to h = page_granted t new class g rests_are (a_chunk e) (a_page e) i to h

@@ -8,11 +8,8 @@ use Rattle.slabs.proofs.Ends.{record_fits, chunk_inside}
 use Rattle.records.proofs.Telling.{at_column}
 use Rattle.records.proofs.records.Records.data.Goals as goal
 
-pub unwrap-requires : goal.unwrap-requires
-unwrap-requires c = c.data_if_held.ensures.some c.requires.held
-
-pub returns : goal.returns
-returns c =
+pub returns-clause-short : goal.returns-clause-short
+returns-clause-short c =
     let s = c.args.self.now.slab in
     let i = c.args.i in
     let memory = c.args.memory.now in
@@ -25,7 +22,4 @@ returns c =
     let span = at_column (λ r. r.key_len + r.data_len) (rows_of s) i in
     let fits = record_fits s i c.requires.held in
     let inside = chunk_inside s i (rw c.requires.held (omega arith)) in
-    record {
-      «data» = is;
-      short = omega (arith, ap length is, length-take row.data_len (drop (start (layout s) i + row.key_len) memory));
-    }
+    omega (arith, ap length is, length-take row.data_len (drop (start (layout s) i + row.key_len) memory))

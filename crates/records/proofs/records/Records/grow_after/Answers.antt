@@ -1,7 +1,6 @@
 use mathlib.Core.Logic.{∥∥₁_map}
-use Rattle.std.proofs.Common.{map, sym, refl, ap, ◌∙◌}
+use Rattle.std.proofs.Common.{map, sym, refl}
 use Rattle.chained.specs.Chains.{size}
-use Rattle.chained.specs.Growth.{grow_after}
 use Rattle.slabs.specs.Slabs.{rows_of}
 use Rattle.chained.proofs.Sound.{holds_as}
 use Rattle.records.proofs.records.Records.grow_after.Goals as goal
@@ -23,12 +22,4 @@ invariant_of-self c =
         kept = holds_as (size c.grow_after.new.self) ix.ids (sym value) refl refl (c.grow_after.ensures.held links hashes ix.ids (holds_as (size t.table) ix.ids value refl refl ix.kept));
         exact = ix.exact;
       });
-    }
-
-pub returns : goal.returns
-returns c =
-    record {
-      slab = refl;
-      slots = refl;
-      grown = c.grow_after.ensures.grown ∙ ap (λ n. grow_after c.args.entries n (size c.args.self.now.table)) c.deref.ensures.len;
     }

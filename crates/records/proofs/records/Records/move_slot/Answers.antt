@@ -60,16 +60,15 @@ invariant_of-self-2 c =
       });
     }
 
-pub returns : goal.returns
-returns c =
-    let a = (goal.at.returns c).After-move_one in
+pub returns-clause-granted : goal.returns-clause-granted
+returns-clause-granted c = λ i class h.
+    let a = (goal.at.returns-clause-granted c).After-move_one in
+    ap (λ x. get_or x i 0) (sym (homes_same (rows_of c.args.self.now.slab) (vec_items (rows a)) (stays a))) ∙ h
+
+pub returns-clause-shown : goal.returns-clause-shown
+returns-clause-shown c = λ setup memory ks sh.
+    let a = (goal.at.returns-clause-shown c).After-move_one in
     let s = c.args.self.now.slab in
     let homes_are = homes_same (rows_of s) (vec_items (rows a)) (stays a) in
     let tells = column_of_rest unchained told (λ _. refl) (rows_of s) (vec_items (rows a)) (stays a) in
-    record {
-      moved = c.move_one.ensures.moved;
-      layout = refl;
-      slots = refl;
-      granted = λ i class h. ap (λ x. get_or x i 0) (sym homes_are) ∙ h;
-      shown = λ setup memory ks sh. shows_same setup s memory ks sh _ refl tells (λ k h. ap (λ x. get_or x k 0) (sym homes_are) ∙ h) sh.lists (family_same (rows_of s) (vec_items (rows a)) (stays a) s.classes.all sh.lists sh.listed) (λ class. refl);
-    }
+    shows_same setup s memory ks sh _ refl tells (λ k h. ap (λ x. get_or x k 0) (sym homes_are) ∙ h) sh.lists (family_same (rows_of s) (vec_items (rows a)) (stays a) s.classes.all sh.lists sh.listed) (λ class. refl)

@@ -25,15 +25,10 @@ invariant_of-result c =
       } ∣₁;
     }
 
-pub returns : goal.returns
-returns c =
-    let s = c.open-slab.result in
-    let plan = c.args.plan.now in
+pub returns-clause-granted : goal.returns-clause-granted
+returns-clause-granted c = none_granted c.open-slab.result c.open-slab.ensures.empty
+
+pub returns-clause-shown : goal.returns-clause-shown
+returns-clause-shown c = λ setup memory same.
     let made = c.open-slab.ensures in
-    record {
-      opened = made.opened;
-      table = c.open-table.ensures.starts;
-      slots = refl;
-      granted = none_granted s made.empty;
-      shown = λ setup memory same. opened_shows plan (vec_len c.args.rows) s made.empty made.opened setup memory same;
-    }
+    opened_shows c.args.plan.now (vec_len c.args.rows) c.open-slab.result made.empty made.opened setup memory same

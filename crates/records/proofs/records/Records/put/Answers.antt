@@ -11,28 +11,23 @@ use Rattle.slabs.specs.declared.slab.Slab.{Slab}
 use Rattle.slabs.specs.Slabs.{InOrder, layout, rows_of}
 use Rattle.records.specs.Standing.{Indexed}
 use Rattle.records.proofs.Chaining.{unchained, order_same}
-use Rattle.records.proofs.Linking.{row_still, outside, still_kept, put_exact, put_granted, put_spent, put_shown}
+use Rattle.records.proofs.Linking.{outside, still_kept, put_exact, put_granted, put_spent, put_shown}
 use Rattle.records.proofs.records.Records.put.Goals as goal
 use Rattle.records.proofs.records.Records.put.Goals.{After-insert}
 
-pub insert-requires : goal.insert-requires
-insert-requires c =
+pub insert-requires-clause-outside : goal.insert-requires-clause-outside
+insert-requires-clause-outside c =
     let t = c.args.self.now in
     let grant = c.args.grant in
     let u = c.link-row.new.self in
     let made = c.link-row.ensures in
-    let row_is = made.row in
-    let heads_are = c.deref_mut.ensures.value in
     let rows_are = c.deref_mut-2.ensures.value in
-    record {
-      within = omega (arith, row_is, ap length rows_are, row_still t grant.row grant.class c.requires.granted u made.linked _ _ c.args.tag made.described);
-      outside = ∥∥₁_map t.indexed (λ ix. (
-        ix.ids,
-        holds_as (size t.table) ix.ids heads_are (ap (map (λ row. row.chain)) rows_are) (ap (map (λ row. row.tag.hash)) rows_are)
-            (still_kept t grant.row grant.class c.requires.granted u made.linked _ _ c.args.tag made.described ix),
-        ap (λ n. count n ix.ids) (row_is) ∙ outside t grant.row grant.class c.requires.granted u made.linked _ _ c.args.tag made.described ix,
-      ));
-    }
+    ∥∥₁_map t.indexed (λ ix. (
+      ix.ids,
+      holds_as (size t.table) ix.ids c.deref_mut.ensures.value (ap (map (λ row. row.chain)) rows_are) (ap (map (λ row. row.tag.hash)) rows_are)
+          (still_kept t grant.row grant.class c.requires.granted u made.linked _ _ c.args.tag made.described ix),
+      ap (λ n. count n ix.ids) made.row ∙ outside t grant.row grant.class c.requires.granted u made.linked _ _ c.args.tag made.described ix,
+    ))
 
 module _ (c : After-insert) where
   abbrev linked : Slab

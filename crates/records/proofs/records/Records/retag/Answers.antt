@@ -1,4 +1,4 @@
-use Rattle.std.proofs.Common.{cond, eqb, map, get_or, vec_items, sym, refl, ap, ◌∙◌, subst}
+use Rattle.std.proofs.Common.{cond, eqb, map, get_or, vec_items, sym, ap, ◌∙◌, subst}
 use mathlib.Core.Logic.{∥∥₁_map}
 use Rattle.chained.specs.Chains.{Holds, size}
 use Rattle.slabs.specs.Lists.{held_of}
@@ -25,13 +25,4 @@ invariant_of-self c =
                 ∙ ap (λ h. cond (eqb (get_or h k 0) (held_of (class_at (layout t.slab) k))) 1 0) (sym told.homes_stay)
                 ∙ ap (λ l. cond (eqb (get_or (homes_of new) k 0) (held_of (class_at l k))) 1 0) (sym told.layout_stays);
           });
-    }
-
-pub returns : goal.returns
-returns c =
-    let told = c.set_tag.ensures in
-    record {
-      retagged = told;
-      table = refl;
-      kept = record { layout = told.layout_stays; table = refl; slots = refl; granted = λ k class h. ap (λ x. get_or x k 0) (sym told.homes_stay) ∙ h };
     }

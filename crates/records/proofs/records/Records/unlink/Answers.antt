@@ -26,21 +26,15 @@ use Rattle.records.proofs.records.Records.unlink.Goals.{After-remove}
 once : (homes : List ℕ) (i c n : ℕ) → n ≡ cond (eqb (get_or homes i 0) (held_of c)) 1 0 → get_or homes i 0 ≡ held_of c → n ≡ 1
 once homes i c n exact held = exact ∙ cond-true (eqb (get_or homes i 0) (held_of c)) 1 0 (eq-eqb _ _ held)
 
-pub remove-requires : goal.remove-requires
-remove-requires c =
+pub remove-requires-clause-inside : goal.remove-requires-clause-inside
+remove-requires-clause-inside c =
     let t = c.args.self.now in
-    let rows_are = c.deref_mut-2.ensures.value in
-    let heads_are = c.deref_mut.ensures.value in
-    let lt : c.args.i < length (homes_of t.slab) = within (homes_of t.slab) c.args.i (rw c.requires.held (omega arith)) in
-    record {
-      within = omega (arith, lt, length-map (rows_of t.slab) (λ row. row.home), ap length rows_are);
-      inside = ∥∥₁_map t.indexed (λ ix. (
-        ix.ids,
-        subst (λ hs. Keeps (λ row. row.chain) (λ row. row.tag.hash) t.table hs c.deref_mut-2.result.now ix.ids) (sym heads_are)
-            (subst (λ rs. Keeps (λ row. row.chain) (λ row. row.tag.hash) t.table (vec_items t.heads) rs ix.ids) (sym rows_are) ix.kept),
-        once (homes_of t.slab) c.args.i (class_at (layout t.slab) c.args.i) (count c.args.i ix.ids) (ix.exact c.args.i) c.requires.held,
-      ));
-    }
+    ∥∥₁_map t.indexed (λ ix. (
+      ix.ids,
+      subst (λ hs. Keeps (λ row. row.chain) (λ row. row.tag.hash) t.table hs c.deref_mut-2.result.now ix.ids) (sym c.deref_mut.ensures.value)
+          (subst (λ rs. Keeps (λ row. row.chain) (λ row. row.tag.hash) t.table (vec_items t.heads) rs ix.ids) (sym c.deref_mut-2.ensures.value) ix.kept),
+      once (homes_of t.slab) c.args.i (class_at (layout t.slab) c.args.i) (count c.args.i ix.ids) (ix.exact c.args.i) c.requires.held,
+    ))
 
 module _ (c : After-remove) where
   abbrev old : Records

@@ -25,9 +25,6 @@ pub returns-2-clause-shown : goal.returns-2-clause-shown
 returns-2-clause-shown c = λ setup n memory s at few sh.
     flushed at s (c.loop-class.class + 1) (omega (arith, ap length sh.sizes, c.classes-classes.ensures)) (one_more (goal.at.returns-2-clause-shown c).After-flush_class setup n memory s at sh)
 
-pub returns : goal.returns
-returns c =
-    record {
-      pages = c.loop-class.invariant.0;
-      shown = λ setup n memory s at few sh. flushed at s c.loop-class.class (omega (arith, ap length sh.sizes, c.loop-class-test.false, c.classes-classes.ensures)) (c.loop-class.invariant.1 setup n memory s at sh);
-    }
+pub returns-clause-shown : goal.returns-clause-shown
+returns-clause-shown c =
+    λ setup n memory s at few sh. flushed at s c.loop-class.class (omega (arith, ap length sh.sizes, c.loop-class-test.false, c.classes-classes.ensures)) (c.loop-class.invariant.1 setup n memory s at sh)

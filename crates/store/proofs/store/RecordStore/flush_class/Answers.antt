@@ -20,11 +20,8 @@ loop-row-preserved c = (
       flushed_one f num r front c.leave.new.self (c.leave.ensures.shown setup n memory None f.left at f.shown),
 )
 
-pub returns : goal.returns
-returns c =
-    record {
-      pages = c.loop-row.invariant.0;
-      shown = λ setup n memory s at sh num emptied.
-          let f = c.loop-row.invariant.1 setup n memory s at sh num emptied in
-          one_emptied f (front_none (class_at c.args.class f.left.classes).records (c.in_default.ensures.shown setup memory f.left.classes f.shown.records num));
-    }
+pub returns-clause-shown : goal.returns-clause-shown
+returns-clause-shown c =
+    λ setup n memory s at sh num emptied.
+    let f = c.loop-row.invariant.1 setup n memory s at sh num emptied in
+    one_emptied f (front_none (class_at c.args.class f.left.classes).records (c.in_default.ensures.shown setup memory f.left.classes f.shown.records num))

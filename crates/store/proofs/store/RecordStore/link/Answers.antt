@@ -1,4 +1,4 @@
-use Rattle.std.proofs.Common.{◌+◌, ◌*◌, ◌≤◌, length, get_or, Some, None, sym, refl, ap, ◌∙◌, subst}
+use Rattle.std.proofs.Common.{◌+◌, ◌*◌, ◌≤◌, length, get_or, Some, None, sym, refl, subst}
 use Rattle.model.specs.Store.{Replaced, held, remove_any, numbered, insert, grow}
 use Rattle.store.specs.Showing.{Shows, new_record}
 use Rattle.store.proofs.Links.{cleared, same_cas}
@@ -13,18 +13,15 @@ insert-requires c =
       memory = subst (λ l. 4096 * l.pages ≤ length c.args.memory.now) (sym gone.kept.layout) c.requires.memory;
     }
 
-pub returns : goal.returns
-returns c =
+pub returns-clause-shown : goal.returns-clause-shown
+returns-clause-shown c =
     let key = c.args.key.now.bytes.now in
     let fresh = c.args.fresh in
     let r = new_record key c.args.data.now fresh in
-    record {
-      pages = c.grow.ensures.pages ∙ c.insert.ensures.pages ∙ ap (λ l. l.pages) c.clear.ensures.kept.layout;
-      shown = λ setup n s few of sh.
-          let now = fresh.second in
-          let clear = remove_any setup now Replaced (held key s) s in
-          let after = c.clear.ensures.shown setup n (Some c.args.grant) s now sh in
-          let stored = c.insert.ensures.shown setup n clear few of (cleared setup s sh.records.kept now Replaced key (held key s) refl) after in
-          subst (λ cas. Shows setup (n + 1) c.grow.new.self c.insert.new.memory None (grow setup (insert setup (numbered (cas + 1) r) clear))) (same_cas setup now Replaced (held key s) s)
-          (c.grow.ensures.shown setup (n + 1) c.insert.new.memory None (insert setup (numbered (clear.cas + 1) r) clear) stored);
-    }
+    λ setup n s few of sh.
+    let now = fresh.second in
+    let clear = remove_any setup now Replaced (held key s) s in
+    let after = c.clear.ensures.shown setup n (Some c.args.grant) s now sh in
+    let stored = c.insert.ensures.shown setup n clear few of (cleared setup s sh.records.kept now Replaced key (held key s) refl) after in
+    subst (λ cas. Shows setup (n + 1) c.grow.new.self c.insert.new.memory None (grow setup (insert setup (numbered (cas + 1) r) clear))) (same_cas setup now Replaced (held key s) s)
+    (c.grow.ensures.shown setup (n + 1) c.insert.new.memory None (insert setup (numbered (clear.cas + 1) r) clear) stored)

@@ -7,39 +7,30 @@ use Rattle.store.proofs.Shown.{has_second, reseconded}
 use Rattle.store.proofs.Grants.{made_rid}
 use Rattle.store.proofs.store.RecordStore.reclaim.Goals as goal
 
-pub returns-then-self-class : goal.returns-then-self-class
-returns-then-self-class c =
-    record {
-      pages = refl;
-      shown = λ setup n memory s sh num. (
-        ap (λ o. rid setup c.args.second Expired o s) (none_dead c.args.second _ (omega (arith, c.if-self-class.true, c.from.ensures)) (class_at c.args.class s.classes).records (sh.soon c.args.class num)),
-        sh,
-      );
-    }
+pub returns-then-self-class-clause-shown : goal.returns-then-self-class-clause-shown
+returns-then-self-class-clause-shown c =
+    λ setup n memory s sh num. (
+      ap (λ o. rid setup c.args.second Expired o s) (none_dead c.args.second _ (omega (arith, c.if-self-class.true, c.from.ensures)) (class_at c.args.class s.classes).records (sh.soon c.args.class num)),
+      sh,
+    )
 
-pub returns-in_default : goal.returns-in_default
-returns-in_default c =
+pub returns-in_default-clause-shown : goal.returns-in_default-clause-shown
+returns-in_default-clause-shown c =
     let t = c.args.self.now in
     let class = c.args.class in
     let second = c.args.second in
-    record {
-      pages = refl;
-      shown = λ setup n memory s sh num.
-          let none : last (dead second) (class_at class s.classes).records ≡ None = c.in_default.ensures.shown setup memory s.classes sh.records num in (
-            ap (λ o. rid setup second Expired o s) none,
-            reseconded t _ s sh refl refl refl refl
-                (subst (λ x. Soon setup (set t.soonest class (x + 1)) s.classes) (sym c.from-in_default.ensures) (soon_next setup s.classes t.soonest sh.soon class second (has_second t class c.requires) none)),
-          );
-    }
+    λ setup n memory s sh num.
+    let none : last (dead second) (class_at class s.classes).records ≡ None = c.in_default.ensures.shown setup memory s.classes sh.records num in (
+      ap (λ o. rid setup second Expired o s) none,
+      reseconded t _ s sh refl refl refl refl
+          (subst (λ x. Soon setup (set t.soonest class (x + 1)) s.classes) (sym c.from-in_default.ensures) (soon_next setup s.classes t.soonest sh.soon class second (has_second t class c.requires) none)),
+    )
 
-pub returns : goal.returns
-returns c =
+pub returns-clause-shown : goal.returns-clause-shown
+returns-clause-shown c =
     let t = c.args.self.now in
     let second = c.args.second in
-    record {
-      pages = ap (λ l. l.pages) c.leave.ensures.kept.layout;
-      shown = λ setup n memory s sh num.
-          let r = found_record t memory (record { row = c.in-Some.row }) in
-          made_rid s c.args.class sh.records.kept num second Expired (dead second) r (c.in-Some.ensures.shown setup memory s.classes sh.records num) c.leave.new.self
-          (c.leave.ensures.shown setup n memory None s second sh);
-    }
+    λ setup n memory s sh num.
+    let r = found_record t memory (record { row = c.in-Some.row }) in
+    made_rid s c.args.class sh.records.kept num second Expired (dead second) r (c.in-Some.ensures.shown setup memory s.classes sh.records num) c.leave.new.self
+    (c.leave.ensures.shown setup n memory None s second sh)

@@ -1,9 +1,5 @@
-use Rattle.std.proofs.Common.{None, ap}
+use Rattle.std.proofs.Common.{None}
 use Rattle.store.proofs.store.RecordStore.remove.Goals as goal
 
-pub returns : goal.returns
-returns c =
-    record {
-      pages = ap (λ l. l.pages) c.leave.ensures.kept.layout;
-      shown = λ setup n memory s at few sh. c.leave.ensures.shown setup n memory None s at sh;
-    }
+pub returns-clause-shown : goal.returns-clause-shown
+returns-clause-shown c = λ setup n memory s at few sh. c.leave.ensures.shown setup n memory None s at sh

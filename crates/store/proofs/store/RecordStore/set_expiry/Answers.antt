@@ -1,16 +1,11 @@
-use Rattle.std.proofs.Common.{refl, ap}
+use Rattle.std.proofs.Common.{refl}
 use Rattle.store.proofs.Shown.{shown_touched}
 use Rattle.store.proofs.store.RecordStore.set_expiry.Goals as goal
 
-pub returns : goal.returns
-returns c =
+pub returns-clause-shown : goal.returns-clause-shown
+returns-clause-shown c =
     let done = c.set_expiry.ensures in
     let class = c.class_of-class.ensures in
-    record {
-      pages = ap (λ l. l.pages) done.kept.layout;
-      held = done.stays;
-      told = done.told;
-      shown = λ setup n memory s sh.
-          shown_touched c.args.self.now _ s sh c.args.found.row c.requires.held done.kept refl refl c.class_of-class.result class.value class.few c.args.expiry c.note_expiry.ensures
-          (done.shown setup memory s.classes sh.records) refl;
-    }
+    λ setup n memory s sh.
+    shown_touched c.args.self.now _ s sh c.args.found.row c.requires.held done.kept refl refl c.class_of-class.result class.value class.few c.args.expiry c.note_expiry.ensures
+    (done.shown setup memory s.classes sh.records) refl
