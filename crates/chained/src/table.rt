@@ -40,6 +40,7 @@ pub struct Chains {
     unmoved: u32,
 }
 
+// Slots and rows are lent to each call, so what ties the table to them stands at the calls: no type holds all three.
 impl Chains {
     /// An empty table over these slots.
     pub fn open(heads: &mut [u32]) -> Chains
@@ -182,7 +183,7 @@ impl Chains {
     }
 }
 
-// The link of a row.
+// The link of a row. One reader for this and the hash, told by a closure which, could state no column.
 #[tactic(auto, using(recency::proofs::Columns::column_at))]
 fn link_of<R: Chained>(rows: &[R], i: u32) -> u32
     requires { i < length rows.now }

@@ -7,7 +7,7 @@ use std::alloc::{AllocError, Global};
 /// The most often that a byte is repeated by one mark.
 const MOST: usize = 100_000;
 
-/// The value of a hexadecimal digit, and 0 for any other byte.
+/// The value of a hexadecimal digit, and 0 for any other byte; `to_digit` would take capitals too.
 fn hex(digit: u8) -> u8
     ensures { result < 16 }
 {

@@ -26,7 +26,7 @@ impl<'a> Shelf<'a> {
         rows: &'a mut [Entry],
         arena: Arena<'a>,
     ) -> Option<Shelf<'a>> {
-        if heads.len() < 16 || heads.len() > SLOTS || rows.len() > MOST as usize {
+        if !(16..=SLOTS).contains(&heads.len()) || rows.len() > MOST as usize {
             return None;
         }
         let book = Book::open(heads, rows);
@@ -58,6 +58,7 @@ impl<'a> Shelf<'a> {
         let mut sum = 0u32;
         let mut draw = 1u32;
         for _ in 0..times {
+            // one line, as in the demonstration: the crate below both is of rows, and a draw is none
             draw = draw.wrapping_mul(1_664_525).wrapping_add(1_013_904_223);
             let number = if size == 0 {
                 first

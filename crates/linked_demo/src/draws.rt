@@ -1,4 +1,5 @@
-//! Numbers that look drawn by lot, the same in each run.
+//! Numbers that look drawn by lot, the same in each run. `linked_bench` has a line of the kind too: the crate below both is of
+//! rows, and a draw is none.
 
 #[derive(Clone, Copy)]
 pub struct Draws {

@@ -23,9 +23,10 @@ pub struct Numbers<'a> {
 }
 
 impl<'a> Numbers<'a> {
+    // `Texts` opens as this does, over rows of another type and with its arena: each test is the one that its own ghost field needs.
     /// No visitor is held, where there are neither too few slots nor too many, and not too many rows.
     pub fn open(heads: &'a mut [u32], rows: &'a mut [Visitor]) -> Option<Numbers<'a>> {
-        if heads.len() < 16 || heads.len() > SLOTS || rows.len() > ROWS as usize {
+        if !(16..=SLOTS).contains(&heads.len()) || rows.len() > ROWS as usize {
             return None;
         }
         let guests = Guests::open(heads, rows);

@@ -9,7 +9,8 @@ use crate::{ROWS, SLOTS};
 use linked_rows::{Arena, Book, Entry, Text};
 use recency::ahead_of;
 
-/// The letters of the text of a number: four for the number, and the rest all the same.
+/// The letters of the text of a number: four for the number, and the rest all the same. Texts differ in length, and keys of
+/// `linked_bench` do not.
 pub fn letters(number: u32) -> [u8; 16] {
     let mut out = [b'z'; 16];
     let mut left = number;
@@ -44,7 +45,7 @@ impl<'a> Texts<'a> {
         rows: &'a mut [Entry],
         arena: Arena<'a>,
     ) -> Option<Texts<'a>> {
-        if heads.len() < 16 || heads.len() > SLOTS || rows.len() > ROWS as usize {
+        if !(16..=SLOTS).contains(&heads.len()) || rows.len() > ROWS as usize {
             return None;
         }
         let book = Book::open(heads, rows);

@@ -36,6 +36,8 @@ impl Entry {
     }
 }
 
+// Which fields are its links is all that a row says here: a struct of links as a field would put one more name into each clause
+// and each constructor, and spare none of these.
 impl Linked for Entry {
     ghost next_of = { λ row. row.next };
 

@@ -23,6 +23,7 @@ impl Numbered for Visitor {
     }
 }
 
+// Which field is its link is all that a row says here: see `Entry`.
 impl Chained for Visitor {
     ghost link_of = { λ row. row.link };
     // a number is its own hash

@@ -45,6 +45,7 @@ pub struct RecencyList {
     back: u32,
 }
 
+// Rows are lent to each call, so what ties a list to them stands at the calls: no type holds both.
 impl RecencyList {
     // Has the row `at` name `to` as its next one. What comes next at NONE is the front of the list.
     #[tactic(auto, using(crate::proofs::Columns::column_set, crate::proofs::Columns::column_kept))]

@@ -14,7 +14,8 @@ use replies::output::Writer;
 use std::io;
 use std::io::Write;
 
-/// How many bytes a buffer has: room for every reply that the table can give.
+/// How many bytes a buffer has: room for every reply that the table can give. `reply_bytes` tells it too, but the length of an
+/// array is a constant.
 const BYTES: usize = 18_432;
 
 /// The buffer that replies are written into.

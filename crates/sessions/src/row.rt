@@ -17,6 +17,8 @@ pub struct SessionRow {
     prev: u32,
 }
 
+// Which fields are its links is all that a row says here: a struct of links as a field would put one more name into each clause
+// and each constructor, and spare none of these.
 impl Linked for SessionRow {
     ghost next_of = { λ row. row.next };
 

@@ -101,6 +101,7 @@ impl Desk {
 
     /// Grants a chunk of a class and returns it unused. Says whether there was one.
     pub fn borrow_chunk(&mut self, class: usize) -> bool {
+        // the grant has to be spent before the answer is given
         match self.slab.take(class) {
             Some(grant) => {
                 self.slab.give_back(grant);

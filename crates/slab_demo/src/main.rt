@@ -57,6 +57,7 @@ fn play(rt: &HostRuntime, desk: &mut Desk) -> io::Result<()> {
 }
 
 fn main(rt: HostRuntime) -> io::Result<()> {
+    // what is missing is said where results are said, and is no failure of the run
     let Ok(plan) = Plan::new(1024, 200) else {
         return println!(rt; "no plan");
     };

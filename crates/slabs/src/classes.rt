@@ -11,13 +11,15 @@ use crate::class::{Class, Stand, number};
 use crate::row::Row;
 use plan::Plan;
 
-/// The classes by number; class 0 and those past the plan's are no classes.
+/// The classes by number; class 0 and those past the plan's are no classes. They are one more than plan's most, and the length
+/// of an array cannot be computed from a constant.
 #[derive(Clone, Copy)]
 pub struct Classes {
     pub all: [Class; 33],
 }
 
-// Rows are lent to each call, so what ties the classes to them (`lists`, `within`, `home`) stands at the calls: no type holds both.
+// Rows are lent to each call, so what ties the classes to them (`lists`, `within`, `home`) stands at the calls, and so does what
+// is known of the number that is asked for (`class`, `room`): no type holds both.
 impl Classes {
     // The classes of a plan, with no pages.
     pub fn planned(plan: &Plan) -> Classes

@@ -20,7 +20,7 @@ const ROWS_PER_PAGE: usize = 85;
 /// The most pages of a slab.
 const MOST_PAGES: usize = 256;
 
-/// The bytes of a page.
+/// The bytes of a page. Plan keeps its own to itself, as a `u32`.
 const PAGE: usize = 4096;
 
 /// Pages, cut into chunks for the classes that they were given to.
@@ -28,7 +28,8 @@ const PAGE: usize = 4096;
 pub struct Slab {
     pub rows: Vec<Row>,
     classes: Classes,
-    // The class of each page, 0 for none; as many as `given` have one. Fixed memory: a page is given with nothing allocated.
+    // The class of each page; as many as `given` have one. Fixed memory: a page is given with nothing allocated. 0 stands for
+    // none, as it does for the lists of rows, so that code and clauses have one number for the class of any page.
     owners: [u8; 256],
     given: u32,
     pages: u32,

@@ -34,6 +34,7 @@ fn all_of(rows: &mut [SessionRow]) -> RecencyList
     ensures { (ids : List ℕ) × Reads (λ row. row.next) (λ row. row.prev) result rows.new ids × (length ids ≡ 64) }
 {
     let mut list = RecencyList::new();
+    // the call takes the number of a row and all rows, so there is no element to go over
     for i in 0..64 {
         list.push_front(rows, i);
     }

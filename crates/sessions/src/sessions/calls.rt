@@ -93,6 +93,7 @@ impl Sessions {
         ensures size { table_size self.new ≡ table_size self.old }
         ensures same { result ≡ false → self.new ≡ self.old }
     {
+        // the answer is a `bool`, here and in `close`, which `?` cannot hand on
         let Some(i) = self.find(caller) else {
             return false;
         };

@@ -14,6 +14,7 @@ impl Sessions {
         ensures shown { (xs : List Session) → Shows self.old xs → MatchBool result ((ys : List Session) × LastIdle second limit xs ys × Shows self.new ys) (EndsBusy second limit xs × Shows self.new xs) }
         ensures size { table_size self.new ≡ table_size self.old }
     {
+        // the answer is a `bool`, which `?` cannot hand on
         let Some(i) = self.roster.open.back() else {
             return false;
         };

@@ -11,7 +11,8 @@ use super::{ROWS_PER_PAGE, Slab};
 use crate::class::Stand;
 
 impl Slab {
-    // How many chunks a page gives a class, 0 where there is no such class.
+    // How many chunks a page gives a class, 0 where there is no such class: as `size`, of another field, and no longer than a call
+    // that names the field.
     fn chunks(&self, class: usize) -> u32
         ensures { result ≡ slice_index (layout self.now).chunks class }
     {

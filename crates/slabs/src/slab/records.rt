@@ -61,6 +61,7 @@ impl Slab {
         page * PAGE + place * self.size(self.class_of(i)) as usize
     }
 
+    // Grant, page memory, key, data and tag each come from another owner: a struct of them would be made for the call alone.
     /// Fills a granted chunk with a key and its data: it becomes the front record of its class. Gives its row.
     pub fn link(
         &mut self,
