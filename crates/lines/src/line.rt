@@ -186,6 +186,7 @@ impl<'a> Line<'a> {
         Ok(request)
     }
 
+    // This match on the word stands in place of a table of functions by word: a word without an arm does not compile.
     /// The request of a line with this word.
     pub fn request(&self, word: Word) -> Result<Request<'a>, Fault>
         requires some { 1 ≤ length self.now.tokens.items }

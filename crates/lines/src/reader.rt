@@ -10,7 +10,7 @@ use super::Fault;
 use super::line::Line;
 use super::request::Request;
 use super::tokens::{line_end, split};
-use super::words::find_word;
+use super::words::Word;
 
 /// What the bytes of a request say: the request, or its first fault.
 pub fn read<'a>(bytes: &'a [u8]) -> Result<Request<'a>, Fault>
@@ -32,7 +32,7 @@ pub fn read_line<'a>(bytes: &'a [u8], end: usize) -> Result<Request<'a>, Fault>
     if line.tokens.is_empty() {
         return Err(Fault::Unknown);
     }
-    let word = find_word(line.token(0).bytes).ok_or(Fault::Unknown)?;
+    let word = Word::try_from(line.token(0).bytes)?;
     line.request(word)
 }
 

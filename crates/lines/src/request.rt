@@ -57,6 +57,7 @@ impl<'a> Keys<'a> {
         ensures here { KeyAt self.now i result }
         ensures placed { (bytes : List ℕ) → KeysOf bytes self.now → NthKey bytes self.now i result }
     {
+        // `count` may pass the spans, and then `spans.get(..count)` would have no key at all.
         if i >= self.count {
             return None;
         }

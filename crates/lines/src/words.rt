@@ -3,6 +3,10 @@
 ghost use Rattle.std.specs.Prelude.{◌≡◌};
 ghost use Rattle.lines.specs.Reading.{takes};
 ghost use Rattle.lines.specs.Words.{named};
+ghost use Rattle.lines.specs.declared.Fault.TheVariants as fault;
+ghost use Rattle.std.specs.Option.{ok_or};
+
+use super::Fault;
 
 /// A command word.
 #[derive(Clone, Copy)]
@@ -29,7 +33,7 @@ impl Word {
         match self {
             Word::Set | Word::Add | Word::Replace => args == 4,
             Word::Cas => args == 5,
-            Word::Get | Word::Gets => 1 <= args && args <= 4,
+            Word::Get | Word::Gets => (1..=4).contains(&args),
             Word::Delete => args == 1,
             Word::Touch => args == 2,
             Word::FlushAll | Word::Version | Word::Quit | Word::Stats => args == 0,
@@ -53,12 +57,17 @@ const WORDS: [(&[u8], Word); 12] = [
     (b"stats", Word::Stats),
 ];
 
-/// The command word that a token is.
-pub fn find_word(token: &[u8]) -> Option<Word>
-    ensures { result ≡ named token.now }
-{
-    WORDS
-        .iter()
-        .find(|(text, _)| token == *text)
-        .map(|(_, word)| *word)
+impl TryFrom<&[u8]> for Word {
+    type Error = Fault;
+
+    ghost try_from_gives = { λ token result. result ≡ ok_or (named token.now) fault.Unknown };
+
+    /// The command word that a token is.
+    fn try_from(token: &[u8]) -> Result<Word, Fault> {
+        WORDS
+            .iter()
+            .find(|(text, _)| token == *text)
+            .map(|(_, word)| *word)
+            .ok_or(Fault::Unknown)
+    }
 }

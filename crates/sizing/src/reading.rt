@@ -68,3 +68,13 @@ impl Kind {
         Ok(Kind { key, block, count })
     }
 }
+
+impl TryFrom<&[u8]> for Kind {
+    type Error = Fault;
+
+    ghost try_from_gives = { λ line result. result ≡ kind_in line.now };
+
+    fn try_from(line: &[u8]) -> Result<Kind, Fault> {
+        Kind::read(line)
+    }
+}

@@ -17,10 +17,7 @@ impl Plan {
     pub fn size(&self, class: usize) -> Option<u32>
         ensures { result ≡ of_class (λ s. s) (plan_sizes self.now) class }
     {
-        if class == 0 || class > self.count {
-            return None;
-        }
-        Some(self.sizes[class - 1])
+        self.sizes[..self.count].get(class.checked_sub(1)?).copied()
     }
 
     // How many chunks a page gives to a class.
