@@ -7,5 +7,5 @@ returns-clause-shown c =
     let done = c.set_expiry.ensures in
     let class = c.class_of-class.ensures in
     λ setup n memory s sh.
-    shown_touched c.args.self.now _ s sh c.args.found.row c.requires.held done.kept refl refl c.class_of-class.result class.value class.few c.args.expiry c.note_expiry.ensures
+    shown_touched c.args.self.now _ s sh c.args.found.row c.requires.held done.kept refl refl c.class_of-class.result class.value class.few c.args.expiry c.note.ensures
     (done.shown setup memory s.classes sh.records) refl
