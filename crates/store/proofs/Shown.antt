@@ -21,10 +21,6 @@ use Rattle.store.specs.Showing.{Shows, Tame, Outstanding, Later, counts_shown}
 use Rattle.store.proofs.Soon.{Soon, soon_without, soon_front, noted, noted_later, soon_noted, soon_aged}
 use Rattle.store.proofs.Tamed.{leaves, tame_more, tame_removed, tame_fronted, tame_touched}
 
--- each class has its second
-pub has_second : (t : RecordStore) (class : ℕ) → class < 33 → class < length t.soonest.seconds
-has_second t class lt = omega (arith, t.soonest.each)
-
 -- what is beside the records is as it was
 pub record Beside (t t' : RecordStore) : Type 0 where
   pub plan : t'.plan ≡ t.plan
@@ -129,10 +125,9 @@ module _ {setup : Setup} {n : ℕ} {memory : List ℕ} {out : Option Grant} (t t
       (tame_fronted setup n s sound sh.tame second here live)
 
   -- a record got another expiry, which was noted for its class
-  pub shown_touched : (class : ℕ) → class ≡ class_at (layout t.records.slab) i → class < 33 → (expiry : Option ℕ) → t'.soonest.seconds ≡ noted t.soonest.seconds class expiry → ShowsRecords setup t'.records.slab memory (with_expiry setup expiry here s.classes) → t'.counts ≡ t.counts → Shows setup n t' memory out (set_expiry setup expiry here s)
-  shown_touched class is few expiry soonest records counts =
+  pub shown_touched : (class : ℕ) → class ≡ class_at (layout t.records.slab) i → class < length t.soonest.seconds → (expiry : Option ℕ) → t'.soonest.seconds ≡ noted t.soonest.seconds class expiry → ShowsRecords setup t'.records.slab memory (with_expiry setup expiry here s.classes) → t'.counts ≡ t.counts → Shows setup n t' memory out (set_expiry setup expiry here s)
+  shown_touched class is lt expiry soonest records counts =
       let sound = sh.records.kept in
-      let lt = has_second t class few in
       let mine : class ≡ class_no setup here = is ∙ sym (home setup t.records.slab memory s.classes sh.records i held) in
       let seconds = noted t.soonest.seconds class expiry in
       carried t t' s (set_expiry setup expiry here s) sh kept plan refl refl records (cas ∙ sh.cas) (ap counts_shown counts ∙ sh.counts)

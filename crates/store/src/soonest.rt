@@ -1,6 +1,6 @@
 //! From which second on a class may hold a dead record.
 
-ghost use Rattle.std.specs.Prelude.{◌≡◌, ◌+◌, ◌-◌, ◌^◌, ◌<◌, length, replicate, Option, nat_le, slice_index, slice_set};
+ghost use Rattle.std.specs.Prelude.{◌≡◌, ◌+◌, ◌-◌, ◌^◌, ◌<◌, replicate, Option, nat_le, slice_index, slice_set};
 ghost use Rattle.plan.specs.Plans.{plan_sizes};
 ghost use Rattle.plan.specs.Classes.{class_of};
 ghost use Rattle.store.specs.Soonest.{noting, sooner};
@@ -14,7 +14,6 @@ const CLASSES: usize = 33;
 #[derive(Drop)]
 pub(crate) struct Soonest {
     seconds: [u64; CLASSES],
-    ghost each: { length seconds ≡ 33 },
 }
 
 impl Soonest {
