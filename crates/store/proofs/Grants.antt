@@ -77,7 +77,7 @@ module _ {setup : Setup} {n : ℕ} {memory : List ℕ} (t t' : RecordStore) (s :
         sizes = ap plan_sizes beside.plan ∙ sh.sizes;
         cas = beside.cas ∙ sh.cas;
         counts = ap counts_shown beside.counts ∙ sh.counts;
-        soon = subst (λ x. Soon setup x (with_page class s.classes)) (sym beside.soonest) (soon_page setup s.classes sh.records.kept t.soonest sh.soon class num);
+        soon = subst (λ x. Soon setup x (with_page class s.classes)) (sym beside.soonest) (soon_page setup s.classes sh.records.kept t.soonest.seconds sh.soon class num);
         tame = tame_given setup n s sh.records.kept sh.tame class num;
       }
 

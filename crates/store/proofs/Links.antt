@@ -24,7 +24,7 @@ use Rattle.store.specs.declared.store.linking.Fresh.{Fresh}
 use Rattle.store.specs.Counting.{gone}
 use Rattle.store.specs.Showing.{Shows, Tame, Outstanding, noting, room_of, new_record, counts_shown}
 use Rattle.store.proofs.Soon.{Soon, noted, noted_later, soon_noted, soon_set}
-use Rattle.store.proofs.Shown.{Beside, has_second, held_are, shown_as, settled}
+use Rattle.store.proofs.Shown.{Beside, held_are, shown_as, settled}
 use Rattle.store.proofs.Grants.{none_outstanding}
 use Rattle.store.proofs.Finds.{none_left}
 
@@ -58,9 +58,9 @@ module _ {setup : Setup} {n : ℕ} {memory : List ℕ} (t : RecordStore) (s : St
       omega (arith, small, room, same)
 
   -- the expiry is noted for the class of the grant
-  pub noted_for : length key + length block ≤ room_of t grant → (need : ℕ) → need ≡ min (length key + length block) (2 ^ 64 - 1) → noting (class_of need (plan_sizes t.plan)) fresh.expiry t.soonest ≡ noted t.soonest grant.class fresh.expiry
+  pub noted_for : length key + length block ≤ room_of t grant → (need : ℕ) → need ≡ min (length key + length block) (2 ^ 64 - 1) → noting (class_of need (plan_sizes t.plan)) fresh.expiry t.soonest.seconds ≡ noted t.soonest.seconds grant.class fresh.expiry
   noted_for fits need is =
-      ap (λ c. noting c fresh.expiry t.soonest)
+      ap (λ c. noting c fresh.expiry t.soonest.seconds)
       (ap (λ x. class_of x (plan_sizes t.plan)) (exact fits need is) ∙ ap (class_of (length key + length block)) sh.sizes ∙ of)
 
   abbrev new : Record
@@ -76,15 +76,15 @@ module _ {setup : Setup} {n : ℕ} {memory : List ℕ} (t : RecordStore) (s : St
   pub brought_new : (cas : ℕ) → cas ≡ min (t.cas + 1) (2 ^ 64 - 1) → (hash : ℕ) → brought key block (record { hash = hash; flags = fresh.flags; expiry = fresh.expiry; cas = cas; moved = fresh.second }) ≡ new
   brought_new cas is hash = ap (λ c. numbered c (new_record key block fresh)) (next_cas cas is)
 
-  module _ (t' : RecordStore) (memory' : List ℕ) (kept : Kept t.records t'.records) (spent : (class : ℕ) → GrantedTo t'.records.slab grant.row class → ⊥) (plan : t'.plan ≡ t.plan) (cas : t'.cas ≡ min (t.cas + 1) (2 ^ 64 - 1)) (counts : t.counts.linked + 1 < 2 ^ 64 → counts_shown t'.counts ≡ count_linked (counts_shown t.counts)) (soonest : t'.soonest ≡ noted t.soonest grant.class fresh.expiry) where
-    soon : Soon setup (noted t.soonest grant.class fresh.expiry) (with_records grant.class (new ∷ (class_at grant.class s.classes).records) s.classes)
+  module _ (t' : RecordStore) (memory' : List ℕ) (kept : Kept t.records t'.records) (spent : (class : ℕ) → GrantedTo t'.records.slab grant.row class → ⊥) (plan : t'.plan ≡ t.plan) (cas : t'.cas ≡ min (t.cas + 1) (2 ^ 64 - 1)) (counts : t.counts.linked + 1 < 2 ^ 64 → counts_shown t'.counts ≡ count_linked (counts_shown t.counts)) (long : length t.soonest.seconds ≡ 33) (soonest : t'.soonest.seconds ≡ noted t.soonest.seconds grant.class fresh.expiry) where
+    soon : Soon setup (noted t.soonest.seconds grant.class fresh.expiry) (with_records grant.class (new ∷ (class_at grant.class s.classes).records) s.classes)
     soon =
         let h = high in
         let small = (fair t.plan grant.class num.low high).few in
-        let lt = has_second t grant.class (omega arith) in
-        let old = soon_noted t.soonest grant.class fresh.expiry lt setup s.classes sh.soon in
-        soon_set setup s.classes sh.records.kept (noted t.soonest grant.class fresh.expiry) old grant.class num _
-        (noted_later t.soonest grant.class fresh.expiry lt, old grant.class num)
+        let lt : grant.class < length t.soonest.seconds = omega arith in
+        let old = soon_noted t.soonest.seconds grant.class fresh.expiry lt setup s.classes sh.soon in
+        soon_set setup s.classes sh.records.kept (noted t.soonest.seconds grant.class fresh.expiry) old grant.class num _
+        (noted_later t.soonest.seconds grant.class fresh.expiry lt, old grant.class num)
 
     tame : Tame (n + 1) (insert setup new s)
     tame =
@@ -106,7 +106,7 @@ module _ {setup : Setup} {n : ℕ} {memory : List ℕ} (t : RecordStore) (s : St
         (subst (λ c. ShowsRecords setup t'.records.slab memory' (with_records c (new ∷ (class_at c s.classes).records) s.classes)) (sym home) records)
         (none_outstanding t.records.slab t'.records.slab grant sh.granted kept.granted spent)
         (ap size kept.table ∙ sh.growth) (next_cas t'.cas cas) (counts (omega arith) ∙ ap count_linked sh.counts)
-        (subst (λ c. Soon setup t'.soonest (with_records c (new ∷ (class_at c s.classes).records) s.classes)) (sym home)
+        (subst (λ c. Soon setup t'.soonest.seconds (with_records c (new ∷ (class_at c s.classes).records) s.classes)) (sym home)
         (subst (λ x. Soon setup x (with_records grant.class (new ∷ (class_at grant.class s.classes).records) s.classes)) (sym soonest) soon))
         tame
 

@@ -40,6 +40,6 @@ shown_opened {setup} t rows opened is few records granted table slots sizes cas 
       sizes = sizes;
       cas = cas;
       counts = ap counts_shown counts;
-      soon = λ class num. subst (AllByRecursion (NotBefore (get_or t.soonest class 0))) (sym (no_records (length setup.sizes) (class - 1))) tt;
+      soon = λ class num. subst (AllByRecursion (NotBefore (get_or t.soonest.seconds class 0))) (sym (no_records (length setup.sizes) (class - 1))) tt;
       tame = record { linked = omega arith; numbered = omega arith; asked = omega arith; balance = even_empty setup };
     }

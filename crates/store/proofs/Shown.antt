@@ -21,22 +21,18 @@ use Rattle.store.specs.Showing.{Shows, Tame, Outstanding, Later, counts_shown}
 use Rattle.store.proofs.Soon.{Soon, soon_without, soon_front, noted, noted_later, soon_noted, soon_aged}
 use Rattle.store.proofs.Tamed.{leaves, tame_more, tame_removed, tame_fronted, tame_touched}
 
--- each class has its second
-pub has_second : (t : RecordStore) (class : ℕ) → class < 33 → class < length t.soonest
-has_second t class lt = omega (arith, t.each)
-
 -- what is beside the records is as it was
 pub record Beside (t t' : RecordStore) : Type 0 where
   pub plan : t'.plan ≡ t.plan
   pub cas : t'.cas ≡ t.cas
   pub counts : t'.counts ≡ t.counts
-  pub soonest : t'.soonest ≡ t.soonest
+  pub soonest : t'.soonest.seconds ≡ t.soonest.seconds
 
 -- WHAT IS SHOWN
 
 -- where the plan, the slots and how pages are cut are as they were
 pub settled : {setup : Setup} {n m : ℕ} {memory memory' : List ℕ} {out : Option Grant} (out' : Option Grant) (t t' : RecordStore) (s s' : Store) → Shows setup n t memory out s → t'.plan ≡ t.plan → layout t'.records.slab ≡ layout t.records.slab → vec_len t'.records.heads ≡ vec_len t.records.heads → s'.free ≡ s.free
-    → ShowsRecords setup t'.records.slab memory' s'.classes → Outstanding out' t'.records.slab → size t'.records.table ≡ s'.growth → t'.cas ≡ s'.cas → counts_shown t'.counts ≡ s'.counts → Soon setup t'.soonest s'.classes → Tame m s'
+    → ShowsRecords setup t'.records.slab memory' s'.classes → Outstanding out' t'.records.slab → size t'.records.table ≡ s'.growth → t'.cas ≡ s'.cas → counts_shown t'.counts ≡ s'.counts → Soon setup t'.soonest.seconds s'.classes → Tame m s'
     → Shows setup m t' memory' out' s'
 settled out' t t' s s' sh plan lay slots free records granted growth cas counts soon tame =
     let given : t'.records.slab.given ≡ t.records.slab.given = ap (λ l. l.given) lay in
@@ -81,7 +77,7 @@ shown_as {setup} out' t t' s g sh beside lay slots records granted growth =
     (subst (λ x. Soon setup x s.classes) (sym beside.soonest) sh.soon) (same_tame s sh.tame g s.story)
 
 -- other seconds are kept for the classes
-pub reseconded : {setup : Setup} {n : ℕ} {memory : List ℕ} {out : Option Grant} (t t' : RecordStore) (s : Store) → Shows setup n t memory out s → t'.plan ≡ t.plan → t'.records ≡ t.records → t'.cas ≡ t.cas → t'.counts ≡ t.counts → Soon setup t'.soonest s.classes → Shows setup n t' memory out s
+pub reseconded : {setup : Setup} {n : ℕ} {memory : List ℕ} {out : Option Grant} (t t' : RecordStore) (s : Store) → Shows setup n t memory out s → t'.plan ≡ t.plan → t'.records ≡ t.records → t'.cas ≡ t.cas → t'.counts ≡ t.counts → Soon setup t'.soonest.seconds s.classes → Shows setup n t' memory out s
 reseconded {setup} {n} {memory} {out} t t' s sh plan records cas counts soon =
     settled out t t' s s sh plan (ap (λ r. layout r.slab) records) (ap (λ r. vec_len r.heads) records) refl
     (subst (λ r. ShowsRecords setup r.slab memory s.classes) (sym records) sh.records)
@@ -99,7 +95,7 @@ held_are t s sh = omega (arith, ap accounts.gone sh.counts, ap (λ c. c.linked) 
 -- a change of records that leaves alone pages, the hash table and the grants
 pub carried : {setup : Setup} {n : ℕ} {memory : List ℕ} {out : Option Grant} (t t' : RecordStore) (s s' : Store) → Shows setup n t memory out s → Kept t.records t'.records
     → t'.plan ≡ t.plan → s'.free ≡ s.free → s'.growth ≡ s.growth
-    → ShowsRecords setup t'.records.slab memory s'.classes → t'.cas ≡ s'.cas → counts_shown t'.counts ≡ s'.counts → Soon setup t'.soonest s'.classes → Tame n s'
+    → ShowsRecords setup t'.records.slab memory s'.classes → t'.cas ≡ s'.cas → counts_shown t'.counts ≡ s'.counts → Soon setup t'.soonest.seconds s'.classes → Tame n s'
     → Shows setup n t' memory out s'
 carried {out = out} t t' s s' sh kept plan free growth records =
     settled out t t' s s' sh plan kept.layout kept.slots free records (outstanding_kept out t.records.slab t'.records.slab kept.granted sh.granted) (ap size kept.table ∙ sh.growth ∙ sym growth)
@@ -112,31 +108,30 @@ module _ {setup : Setup} {n : ℕ} {memory : List ℕ} {out : Option Grant} (t t
   live = lives_here setup t.records.slab memory s.classes sh.records i held
 
   -- a record left, and was counted
-  pub shown_removed : t'.soonest ≡ t.soonest → (at : ℕ) (why : Why) → ShowsRecords setup t'.records.slab memory (without_record setup here s.classes) → (Leaves t.counts → counts_shown t'.counts ≡ count_left why (counts_shown t.counts)) → Shows setup n t' memory out (remove setup at why here s)
+  pub shown_removed : t'.soonest.seconds ≡ t.soonest.seconds → (at : ℕ) (why : Why) → ShowsRecords setup t'.records.slab memory (without_record setup here s.classes) → (Leaves t.counts → counts_shown t'.counts ≡ count_left why (counts_shown t.counts)) → Shows setup n t' memory out (remove setup at why here s)
   shown_removed soonest at why records counted =
       let sound = sh.records.kept in
       carried t t' s (remove setup at why here s) sh kept plan refl refl records (cas ∙ sh.cas)
       (counted (leaves setup n s sound sh.tame t.counts sh.counts here live) ∙ ap (count_left why) sh.counts)
-      (subst (λ x. Soon setup x (without_record setup here s.classes)) (sym soonest) (soon_without setup s.classes sound t.soonest sh.soon here live))
+      (subst (λ x. Soon setup x (without_record setup here s.classes)) (sym soonest) (soon_without setup s.classes sound t.soonest.seconds sh.soon here live))
       (tame_removed setup n s sound sh.tame at why here live)
 
   -- a record went to the front of its class
-  pub shown_fronted : t'.soonest ≡ t.soonest → (second : ℕ) → ShowsRecords setup t'.records.slab memory (with_front setup second here s.classes) → t'.counts ≡ t.counts → Shows setup n t' memory out (to_front setup second here s)
+  pub shown_fronted : t'.soonest.seconds ≡ t.soonest.seconds → (second : ℕ) → ShowsRecords setup t'.records.slab memory (with_front setup second here s.classes) → t'.counts ≡ t.counts → Shows setup n t' memory out (to_front setup second here s)
   shown_fronted soonest second records counts =
       let sound = sh.records.kept in
       carried t t' s (to_front setup second here s) sh kept plan refl refl records (cas ∙ sh.cas) (ap counts_shown counts ∙ sh.counts)
-      (subst (λ x. Soon setup x (with_front setup second here s.classes)) (sym soonest) (soon_front setup s.classes sound t.soonest sh.soon here live second))
+      (subst (λ x. Soon setup x (with_front setup second here s.classes)) (sym soonest) (soon_front setup s.classes sound t.soonest.seconds sh.soon here live second))
       (tame_fronted setup n s sound sh.tame second here live)
 
   -- a record got another expiry, which was noted for its class
-  pub shown_touched : (class : ℕ) → class ≡ class_at (layout t.records.slab) i → class < 33 → (expiry : Option ℕ) → t'.soonest ≡ noted t.soonest class expiry → ShowsRecords setup t'.records.slab memory (with_expiry setup expiry here s.classes) → t'.counts ≡ t.counts → Shows setup n t' memory out (set_expiry setup expiry here s)
-  shown_touched class is few expiry soonest records counts =
+  pub shown_touched : (class : ℕ) → class ≡ class_at (layout t.records.slab) i → class < length t.soonest.seconds → (expiry : Option ℕ) → t'.soonest.seconds ≡ noted t.soonest.seconds class expiry → ShowsRecords setup t'.records.slab memory (with_expiry setup expiry here s.classes) → t'.counts ≡ t.counts → Shows setup n t' memory out (set_expiry setup expiry here s)
+  shown_touched class is lt expiry soonest records counts =
       let sound = sh.records.kept in
-      let lt = has_second t class few in
       let mine : class ≡ class_no setup here = is ∙ sym (home setup t.records.slab memory s.classes sh.records i held) in
-      let seconds = noted t.soonest class expiry in
+      let seconds = noted t.soonest.seconds class expiry in
       carried t t' s (set_expiry setup expiry here s) sh kept plan refl refl records (cas ∙ sh.cas) (ap counts_shown counts ∙ sh.counts)
       (subst (λ x. Soon setup x (with_expiry setup expiry here s.classes)) (sym soonest)
-      (soon_aged setup s.classes sound seconds (soon_noted t.soonest class expiry lt setup s.classes sh.soon) here live expiry
-      (subst (λ c. Later (get_or seconds c 0) expiry) mine (noted_later t.soonest class expiry lt))))
+      (soon_aged setup s.classes sound seconds (soon_noted t.soonest.seconds class expiry lt setup s.classes sh.soon) here live expiry
+      (subst (λ c. Later (get_or seconds c 0) expiry) mine (noted_later t.soonest.seconds class expiry lt))))
       (tame_touched setup n s sound sh.tame expiry here live)

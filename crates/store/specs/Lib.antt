@@ -1,4 +1,5 @@
 pub mod Counting
+pub mod Soonest
 pub mod Showing
 pub mod Granting
 pub mod Flushing

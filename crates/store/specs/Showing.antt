@@ -1,5 +1,5 @@
 -- The store of the reference table that the rows, the page memory and the counts of the records show.
-use Rattle.std.specs.Prelude.{◌≡◌, ℕ, ◌+◌, ◌≤◌, min, List, length, Some, None, vec_len, Option, slice_index, slice_set}
+use Rattle.std.specs.Prelude.{◌≡◌, ℕ, ◌+◌, ◌≤◌, List, length, Some, None, vec_len, Option, slice_index}
 use Rattle.std.specs.List.{AllByRecursion}
 use Rattle.plan.specs.Plans.{plan_sizes}
 use Rattle.chained.specs.Chains.{size}
@@ -18,6 +18,7 @@ use Rattle.store.specs.declared.found.Found.{Found}
 use Rattle.store.specs.declared.store.RecordStore.{RecordStore}
 use Rattle.store.specs.declared.store.linking.Fresh.{Fresh}
 pub use Rattle.store.specs.Counting.{counts_shown, why_of}
+pub use Rattle.store.specs.Soonest.{Later, NotBefore, sooner, noting}
 
 -- how many pages there are
 abbrev pub pages_of : RecordStore → ℕ
@@ -44,25 +45,6 @@ abbrev pub Outstanding : Option Grant → Slab → Type 0
 Outstanding None s = NoGrant s
 Outstanding (Some grant) s = OnlyGrant s grant
 
--- an expiry is not before a second
-abbrev pub Later : ℕ → Option ℕ → Type 0
-Later bound None = Unit {0}
-Later bound (Some second) = bound ≤ second
-
--- a record is not dead before a second
-abbrev pub NotBefore : ℕ → Record → Type 0
-NotBefore bound r = Later bound r.expiry
-
--- the earlier of a second and an expiry
-abbrev pub sooner : ℕ → Option ℕ → ℕ
-sooner bound None = bound
-sooner bound (Some second) = min bound second
-
--- the seconds that are kept for the classes, with an expiry noted for one of them
-abbrev pub noting : Option ℕ → Option ℕ → List ℕ → List ℕ
-noting None expiry soonest = soonest
-noting (Some class) expiry soonest = slice_set soonest class (sooner (slice_index soonest class) expiry)
-
 -- numbers so small that no count passes 64 bits while n is far below that
 pub record Tame (n : ℕ) (s : model.Store) : Type 0 where
   pub linked : s.counts.linked ≤ n
@@ -84,7 +66,7 @@ pub record Shows (setup : Setup) (n : ℕ) (t : RecordStore) (memory : List ℕ)
   pub cas : t.cas ≡ s.cas
   pub counts : counts_shown t.counts ≡ s.counts
   -- no record of a class is dead before the second that is kept for the class
-  pub soon : (class : ℕ) → Numbered setup class → AllByRecursion (NotBefore (slice_index t.soonest class)) (class_at class s.classes).records
+  pub soon : (class : ℕ) → Numbered setup class → AllByRecursion (NotBefore (slice_index t.soonest.seconds class)) (class_at class s.classes).records
   pub tame : Tame n s
 
 -- the record that is stored, not numbered yet

@@ -4,6 +4,7 @@
 mod counts;
 mod figures;
 mod found;
+mod soonest;
 mod store;
 
 pub use counts::{Counts, Why};

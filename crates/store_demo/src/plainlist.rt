@@ -14,20 +14,27 @@ pub struct Entry {
 }
 
 impl Entry {
+    // written anew, since the list shares no code with the store that it checks
     fn is_dead(&self, second: u32) -> bool {
         self.expiry
             .is_some_and(|expiry| expiry <= u64::from(second))
     }
 }
 
+/// How many records left by each way.
+#[derive(Clone, Copy, Default, PartialEq)]
+struct Left {
+    evicted: u64,
+    expired: u64,
+    replaced: u64,
+    deleted: u64,
+}
+
 /// How many records are held, and how many left by each way.
 #[derive(Clone, Copy, PartialEq)]
 pub struct Figures {
-    pub held: u64,
-    pub evicted: u64,
-    pub expired: u64,
-    pub replaced: u64,
-    pub deleted: u64,
+    held: u64,
+    left: Left,
 }
 
 impl From<Tally> for Figures {
@@ -35,10 +42,12 @@ impl From<Tally> for Figures {
         let counts = tally.counts;
         Figures {
             held: tally.held,
-            evicted: counts.evicted,
-            expired: counts.expired,
-            replaced: counts.replaced,
-            deleted: counts.deleted,
+            left: Left {
+                evicted: counts.evicted,
+                expired: counts.expired,
+                replaced: counts.replaced,
+                deleted: counts.deleted,
+            },
         }
     }
 }
@@ -47,10 +56,7 @@ impl From<Tally> for Figures {
 #[derive(Drop)]
 pub struct PlainList {
     entries: Vec<Entry>,
-    replaced: u64,
-    deleted: u64,
-    expired: u64,
-    evicted: u64,
+    left: Left,
 }
 
 impl PlainList {
@@ -58,10 +64,7 @@ impl PlainList {
     pub fn new(alloc: Global) -> PlainList {
         PlainList {
             entries: Vec::new(alloc),
-            replaced: 0,
-            deleted: 0,
-            expired: 0,
-            evicted: 0,
+            left: Left::default(),
         }
     }
 
@@ -69,10 +72,7 @@ impl PlainList {
     pub fn figures(&self) -> Figures {
         Figures {
             held: self.entries.len() as u64,
-            evicted: self.evicted,
-            expired: self.expired,
-            replaced: self.replaced,
-            deleted: self.deleted,
+            left: self.left,
         }
     }
 
@@ -96,7 +96,7 @@ impl PlainList {
         let entry = self.entries[at];
         if entry.is_dead(second) {
             self.entries.remove(at);
-            self.expired = self.expired.wrapping_add(1);
+            self.left.expired = self.left.expired.wrapping_add(1);
             return None;
         }
         Some(entry)
@@ -115,7 +115,7 @@ impl PlainList {
     pub fn delete(&mut self, key: [u8; 4]) {
         if let Some(at) = self.place(key) {
             self.entries.remove(at);
-            self.deleted = self.deleted.wrapping_add(1);
+            self.left.deleted = self.left.deleted.wrapping_add(1);
         }
     }
 
@@ -126,10 +126,10 @@ impl PlainList {
         }
         if let Some(at) = self.rearmost_dead(second) {
             self.entries.remove(at);
-            self.expired = self.expired.wrapping_add(1);
+            self.left.expired = self.left.expired.wrapping_add(1);
         } else {
             self.entries.pop();
-            self.evicted = self.evicted.wrapping_add(1);
+            self.left.evicted = self.left.evicted.wrapping_add(1);
         }
     }
 
@@ -138,7 +138,7 @@ impl PlainList {
         self.make_room(most, second);
         if let Some(at) = self.place(entry.key) {
             self.entries.remove(at);
-            self.replaced = self.replaced.wrapping_add(1);
+            self.left.replaced = self.left.replaced.wrapping_add(1);
         }
         self.entries.insert(0, entry)?;
         Ok(())

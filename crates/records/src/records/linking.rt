@@ -26,6 +26,7 @@ impl Records {
         ensures spent { (class : ℕ) → GrantedTo self.new.slab grant.row class → ⊥ }
         ensures shown { (setup : Setup) (ks : List Class) → ShowsRecords setup self.old.slab memory.old ks → Numbered setup grant.class → tag.hash ≡ fnv key.now → class_no setup (brought key.now «data».now tag) ≡ grant.class → first (has_key key.now) (flat_map records_of ks) ≡ None → ShowsRecords setup self.new.slab memory.new (with_records grant.class (brought key.now «data».now tag ∷ (class_at grant.class ks).records) ks) }
     {
+        // key and hash come apart: a tag may be put with any hash, and the record is shown only if it is the key's
         let row = self.slab.link(grant, memory, key, data, tag);
         self.table.insert(&mut self.heads, &mut self.slab.rows, row);
     }

@@ -52,6 +52,8 @@ impl Records {
         self.slab.tally(class).used
     }
 
+    // The two ends are two calls, as a VecDeque has `front` and `back`.
+
     /// The front record of a class, if it has one.
     pub fn foremost(&self, class: usize) -> Option<u32>
         ensures held { IfSome result (λ i. Holds self.now.slab i) }

@@ -50,12 +50,12 @@ impl RecordStore {
         ensures pages { pages_of self.new ≡ pages_of self.old }
         ensures shown { (setup : Setup) (n : ℕ) (memory : List ℕ) (s : Store) → Shows setup n self.old memory None s → Numbered setup class → Made setup class n self.new memory s (rid setup second Expired (rear_dead second class s) s) result }
     {
-        if self.soonest[class] > u64::from(second) {
+        if !self.soonest.may_have_dead(class, second) {
             return false;
         }
         let Some(row) = self.records.rearmost_dead(class, second) else {
-            // so that the next walk waits for a later second
-            self.soonest[class] = u64::from(second) + 1;
+            // the answer is a bool, here and in `evict`, which `?` cannot hand on
+            self.soonest.wait_past(class, second);
             return false;
         };
         self.leave(row, Why::Expired);

@@ -1,19 +1,15 @@
 //! Records that are stored.
 
 ghost use Rattle.std.specs.Prelude.{◌≡◌, ℕ, ◌+◌, ◌*◌, ◌^◌, ◌<◌, ◌≤◌, List, length, Some, None, Option};
-ghost use Rattle.plan.specs.Plans.{plan_sizes};
-ghost use Rattle.plan.specs.Classes.{class_of};
 ghost use Rattle.slabs.specs.declared.grant.Grant.{Grant};
 ghost use Rattle.model.specs.Setup.{Setup};
 ghost use Rattle.model.specs.Records.{class_for};
 ghost use Rattle.model.specs.Store.{Store, Replaced, held, remove_any, numbered, insert, grow, link};
 ghost use Rattle.records.specs.Kept.{Kept, GrantedTo};
-ghost use Rattle.store.specs.Showing.{Shows, HasGrant, room_of, pages_of, new_record, noting};
+ghost use Rattle.store.specs.Showing.{Shows, HasGrant, room_of, pages_of, new_record};
 
 use super::RecordStore;
-use super::telling::note_expiry;
 use crate::counts::Why;
-use plan::Plan;
 use records::Key;
 use slabs::{Grant, Tag};
 
@@ -23,16 +19,6 @@ pub struct Fresh {
     pub flags: u32,
     pub expiry: Option<u64>,
     pub second: u32,
-}
-
-// Notes the expiry of a new record for its class, by the room that it needs.
-fn note_new(plan: &Plan, soonest: &mut [u64], need: u64, expiry: Option<u64>)
-    requires { 33 ≤ length soonest.old }
-    ensures { soonest.new ≡ noting (class_of need (plan_sizes plan.now)) expiry soonest.old }
-{
-    if let Some(class) = plan.class_of(need) {
-        note_expiry(soonest, class, expiry);
-    }
 }
 
 impl RecordStore {
@@ -56,7 +42,7 @@ impl RecordStore {
         ensures shown { (setup : Setup) (n : ℕ) (s : Store) → n < 2 ^ 63 → class_for setup key.now.bytes.now «data».now ≡ Some grant.class → held key.now.bytes.now s ≡ None → Shows setup n self.old memory.old (Some grant) s → Shows setup (n + 1) self.new memory.new None (insert setup (numbered (s.cas + 1) (new_record key.now.bytes.now «data».now fresh)) s) }
     {
         let need = key.bytes.len().saturating_add(data.len());
-        note_new(&self.plan, &mut self.soonest, need as u64, fresh.expiry);
+        self.soonest.note_new(&self.plan, need as u64, fresh.expiry);
         self.cas = self.cas.saturating_add(1);
         self.counts.stored();
         let tag = Tag {

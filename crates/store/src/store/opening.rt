@@ -6,8 +6,9 @@ ghost use Rattle.model.specs.Setup.{Setup};
 ghost use Rattle.model.specs.Calls.{empty};
 ghost use Rattle.store.specs.Showing.{Shows, pages_of};
 
-use super::{CLASSES, RecordStore};
+use super::RecordStore;
 use crate::counts::Counts;
+use crate::soonest::Soonest;
 use plan::Plan;
 use records::Records;
 use slabs::Row;
@@ -26,8 +27,7 @@ impl RecordStore {
             records,
             cas: 0,
             counts: Counts::default(),
-            // no record will ever be dead
-            soonest: [u64::MAX; CLASSES],
+            soonest: Soonest::never(),
         }
     }
 }

@@ -1,24 +1,15 @@
 //! What is told of a record anew: that it was used, or its expiry.
 
-ghost use Rattle.std.specs.Prelude.{◌≡◌, ℕ, ◌<◌, List, length, None, slice_index, slice_set};
+ghost use Rattle.std.specs.Prelude.{◌≡◌, ℕ, List, None};
 ghost use Rattle.policy.specs.Meaning.{meaning};
 ghost use Rattle.model.specs.Setup.{Setup};
 ghost use Rattle.model.specs.Records.{expiring};
 ghost use Rattle.model.specs.Store.{Store, use_record, set_expiry};
-ghost use Rattle.store.specs.Showing.{Shows, Held, found_record, pages_of, sooner};
+ghost use Rattle.store.specs.Showing.{Shows, Held, found_record, pages_of};
 
 use super::RecordStore;
 use crate::found::Found;
 use policy::Policy;
-
-// Keeps for a class a second that is no later than an expiry.
-pub(super) fn note_expiry(soonest: &mut [u64], class: usize, expiry: Option<u64>)
-    requires { class < length soonest.old }
-    ensures { soonest.new ≡ slice_set soonest.old class (sooner (slice_index soonest.old class) expiry) }
-{
-    let bound = soonest[class];
-    soonest[class] = expiry.map_or(bound, |end| bound.min(end));
-}
 
 impl RecordStore {
     /// Notes a use of a record that was found: it goes to the front of its class if the policy says so.
@@ -42,7 +33,7 @@ impl RecordStore {
         ensures shown { (setup : Setup) (n : ℕ) (memory : List ℕ) (s : Store) → Shows setup n self.old memory None s → Shows setup n self.new memory None (set_expiry setup expiry (found_record self.old memory found) s) }
     {
         let class = self.records.class_of(found.row);
-        note_expiry(&mut self.soonest, class, expiry);
+        self.soonest.note(class, expiry);
         self.records.set_expiry(found.row, expiry);
     }
 }
