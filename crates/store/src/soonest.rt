@@ -7,7 +7,7 @@ ghost use Rattle.store.specs.Soonest.{noting, sooner};
 
 use plan::Plan;
 
-/// The plan's most classes and one for class 0, none: an array's length cannot be computed in a const argument.
+/// The plan's most classes, a number that `plan` keeps to itself, and one for class 0, none: the 33 of the contracts.
 const CLASSES: usize = 33;
 
 /// For each class a second before which none of its records is dead.
