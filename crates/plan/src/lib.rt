@@ -7,4 +7,4 @@ mod plan;
 
 pub use examples::examples_stand;
 pub use needs::need;
-pub use plan::Plan;
+pub use plan::{MOST_CLASSES, PAGE, Plan};

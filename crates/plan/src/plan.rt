@@ -4,9 +4,11 @@ ghost use Rattle.plan.specs.Sizes.{lawful, sizes_of};
 mod asking;
 mod making;
 
-const PAGE: u32 = 4096;
+// The bytes of a page.
+pub const PAGE: u32 = 4096;
 
-const MOST_CLASSES: usize = 32;
+// The most classes that a plan has.
+pub const MOST_CLASSES: usize = 32;
 
 // A lawful plan, and nothing else: whoever has one may rely on it without a test.
 #[derive(Clone, Copy)]

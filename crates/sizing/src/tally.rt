@@ -1,6 +1,6 @@
 ghost use Rattle.std.specs.Prelude.{◌*◌, ◌≤◌};
 
-use plan::Plan;
+use plan::{MOST_CLASSES, Plan};
 use std::error::Error;
 use std::fmt;
 
@@ -21,7 +21,7 @@ struct Sum {
 #[derive(Clone, Copy)]
 pub struct Tally {
     plan: Plan,
-    sums: [Sum; 32],
+    sums: [Sum; MOST_CLASSES],
 }
 
 // Why a kind of record goes to no class.

@@ -7,7 +7,7 @@ use slabs::{Row, Slab, Tag, Tally};
 use std::alloc::AllocError;
 
 /// The bytes of a page.
-const PAGE: usize = 4096;
+const PAGE: usize = plan::PAGE as usize;
 
 /// A key and its data.
 #[derive(Clone, Copy)]

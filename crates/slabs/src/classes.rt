@@ -9,13 +9,12 @@ ghost use Rattle.slabs.specs.Lists.{list_of, free_of, into, out_of, shift, to_fr
 
 use crate::class::{Class, Stand, number};
 use crate::row::Row;
-use plan::Plan;
+use plan::{MOST_CLASSES, Plan};
 
-/// The classes by number; class 0 and those past the plan's are no classes. They are one more than plan's most, and the length
-/// of an array cannot be computed from a constant.
+/// The classes by number; class 0 and those past the plan's are no classes.
 #[derive(Clone, Copy)]
 pub struct Classes {
-    pub all: [Class; 33],
+    pub all: [Class; MOST_CLASSES + 1],
 }
 
 // Rows are lent to each call, so what ties the classes to them (`lists`, `within`, `home`) stands at the calls, and so does what

@@ -20,8 +20,8 @@ const ROWS_PER_PAGE: usize = 85;
 /// The most pages of a slab.
 const MOST_PAGES: usize = 256;
 
-/// The bytes of a page. Plan keeps its own to itself, as a `u32`.
-const PAGE: usize = 4096;
+/// The bytes of a page.
+const PAGE: usize = plan::PAGE as usize;
 
 /// Pages, cut into chunks for the classes that they were given to.
 #[derive(Drop)]

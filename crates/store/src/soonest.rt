@@ -5,10 +5,10 @@ ghost use Rattle.plan.specs.Plans.{plan_sizes};
 ghost use Rattle.plan.specs.Classes.{class_of};
 ghost use Rattle.store.specs.Soonest.{noting, sooner};
 
-use plan::Plan;
+use plan::{MOST_CLASSES, Plan};
 
-/// The plan's most classes, a number that `plan` keeps to itself, and one for class 0, none: the 33 of the contracts.
-const CLASSES: usize = 33;
+/// The plan's most classes, and one for class 0, none.
+const CLASSES: usize = MOST_CLASSES + 1;
 
 /// For each class a second before which none of its records is dead.
 #[derive(Drop)]

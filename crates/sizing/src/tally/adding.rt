@@ -5,7 +5,7 @@ ghost use Rattle.sizing.specs.Totals.{Tallied, place_in, taken};
 
 use super::{Sum, Tally, Unplaced};
 use crate::Kind;
-use plan::{Plan, need};
+use plan::{MOST_CLASSES, Plan, need};
 
 impl Tally {
     // A tally of no records.
@@ -19,7 +19,7 @@ impl Tally {
         };
         Tally {
             plan,
-            sums: [nothing; 32],
+            sums: [nothing; MOST_CLASSES],
         }
     }
 

@@ -4,6 +4,7 @@ ghost use Rattle.plan.specs.Plans.{plan_sizes};
 ghost use Rattle.sizing.specs.Pages.{pages_for, Least, pages_at, ClassPages, share_of, load_of, pages_up_to, Settled};
 
 use super::{Load, Shortage, Sum, Tally};
+use plan::PAGE;
 
 // The least number of pages of so many chunks that give a chunk to every record.
 fn pages_for(records: u64, chunks: u32) -> u128
@@ -24,7 +25,7 @@ impl Sum {
         if pages == 0 {
             0
         } else {
-            self.filled * 1000 / (pages * 4096)
+            self.filled * 1000 / (pages * u128::from(PAGE))
         }
     }
 }
