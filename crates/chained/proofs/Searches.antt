@@ -1,7 +1,8 @@
 -- A search along a chain: what lies ahead.
-use Rattle.std.proofs.Common.{◌≡◌, ℕ, ◌<◌, ◌≤◌, List, [], ◌∷◌, length, get_or, sym, refl, ap, ◌∙◌, subst, ⊎_elim, arith}
+use Rattle.std.proofs.Common.{◌≡◌, ℕ, ◌<◌, ◌≤◌, List, [], ◌∷◌, map, length, get_or, sym, refl, ap, ◌∙◌, subst, ⊎_elim, arith}
 use native.Mathlib.Bridge.{le_prop}
 use mathlib.Core.Logic.{∥∥₁_elim}
+use lib.ListN.{length-map}
 use Rattle.std.proofs.lemmas.Bool.{cases_eq}
 use Rattle.std.proofs.lemmas.Bool.Decides.{nat_tests}
 use Rattle.recency.specs.Numbers.{none, count}
@@ -72,8 +73,8 @@ ahead_start size heads link hash ids P h at holds e other =
     )
 
 -- the rows held are among the rows
-pub held_within : (size : ℕ × ℕ) (heads link hash ids : List ℕ) → Holds size heads link hash ids → (k : ℕ) → 0 < count k ids → k < length link
-held_within size heads link hash ids holds k held =
+pub held_within : {size : ℕ × ℕ} {heads link hash ids : List ℕ} → Holds size heads link hash ids → (k : ℕ) → 0 < count k ids → k < length link
+held_within {size} {heads} {link} {hash} holds k held =
     let c = holds.slots (slot size (get_or hash k 0)) in
     chain_within link (get_or heads (slot size (get_or hash k 0)) none) c.0 k c.1 (let q = c.2 k in grind (arith, nat_tests))
 
@@ -89,12 +90,16 @@ held_same size heads link hash ids ids' h h' k =
     grind (arith, nat_tests)
 
 -- the same, where the table is only known to be sound
-module _ (size : ℕ × ℕ) (heads link hash : List ℕ) (P : ℕ → Type 0) (at : ℕ) (sound : Sound size heads link hash) (ahead : (ids : List ℕ) → Holds size heads link hash ids → Ahead link ids P at) (ne : at ≡ none → ⊥) where
+module _ {size : ℕ × ℕ} {heads link hash : List ℕ} {P : ℕ → Type 0} {at : ℕ} (sound : Sound size heads link hash) (ahead : (ids : List ℕ) → Holds size heads link hash ids → Ahead link ids P at) (ne : at ≡ none → ⊥) where
   pub met_within : at < length link
   met_within = ∥∥₁_elim sound le_prop (λ s. ahead_within link s.0 P at (ahead s.0 s.1) ne)
 
   pub met_less : (to : ℕ) → to ≡ get_or link at none → steps (length link) link to < steps (length link) link at
   met_less to e = ∥∥₁_elim sound le_prop (λ s. ahead_less link s.0 P at (ahead s.0 s.1) to s.1.few s.1.once ne e)
+
+-- the row that is met is one of the rows
+pub met_row : {R : Type 0} {size : ℕ × ℕ} {heads hash : List ℕ} {P : ℕ → Type 0} {at : ℕ} (link_of : R → ℕ) (rows : List R) → Sound size heads (map link_of rows) hash → ((ids : List ℕ) → Holds size heads (map link_of rows) hash ids → Ahead (map link_of rows) ids P at) → (at ≡ none → ⊥) → at < length rows
+met_row link_of rows sound ahead ne = omega (arith, met_within sound ahead ne, length-map rows link_of)
 
 -- a search for the row that names i, in a chain that has i
 module _ (link : List ℕ) (first i : ℕ) where

@@ -1,81 +1,51 @@
 use Rattle.std.proofs.Common.{◌≡◌, ℕ, List, map, get_or, set, sym, refl, ap, ◌∙◌, subst, arith}
 use mathlib.Core.Logic.{∥∥₁_map}
 use lib.ListN.{length-map}
-use Rattle.std.proofs.lemmas.List.{get_or_default}
-use Rattle.recency.specs.Numbers.{none, count, without}
+use Rattle.recency.specs.Numbers.{count, without}
 use Rattle.chained.specs.Growth.{slot}
 use Rattle.chained.specs.Chains.{Chain, Holds, size}
 use Rattle.chained.proofs.Changes.{first_out, later_out, home_chain, home_slot}
-use Rattle.chained.proofs.Sound.{sound_of, least_of, home_of, few_of, holds_as, past_same}
+use Rattle.chained.proofs.Sound.{sound_of, least_of, home_of, head_of, few_of, holds_as, past_same}
 use Rattle.chained.proofs.table.Chains.remove.Goals as goal
 
 pub slot_of-home-requires : goal.slot_of-home-requires
-slot_of-home-requires g c =
-    let rows = c.args.rows.now in
-    let heads = c.args.heads.now in
-    let i = c.args.i in
-    let link = map g.R.Chained.link_of rows in
-    let hash = map g.R.Chained.hash_of rows in
-    let s = size c.args.self.now in
-    let sound = sound_of s heads link hash c.requires.inside in
-    least_of s heads link hash sound
+slot_of-home-requires g c = least_of (sound_of c.requires.inside)
 
 pub bounds-heads-home : goal.bounds-heads-home
-bounds-heads-home g c =
-    let rows = c.args.rows.now in
-    let heads = c.args.heads.now in
-    let i = c.args.i in
-    let link = map g.R.Chained.link_of rows in
-    let hash = map g.R.Chained.hash_of rows in
-    let s = size c.args.self.now in
-    let sound = sound_of s heads link hash c.requires.inside in
-    home_of s heads link hash c.slot_of-home.result c.hash_of.result sound c.slot_of-home.ensures
+bounds-heads-home g c = home_of c.hash_of.result (sound_of c.requires.inside) c.slot_of-home.ensures
 
 pub bounds-heads-home-then-first-i : goal.bounds-heads-home-then-first-i
-bounds-heads-home-then-first-i g c =
-    let rows = c.args.rows.now in
-    let heads = c.args.heads.now in
-    let i = c.args.i in
-    let link = map g.R.Chained.link_of rows in
-    let hash = map g.R.Chained.hash_of rows in
-    let s = size c.args.self.now in
-    let sound = sound_of s heads link hash c.requires.inside in
-    home_of s heads link hash c.slot_of-home.result c.hash_of.result sound c.slot_of-home.ensures
+bounds-heads-home-then-first-i g c = home_of c.hash_of.result (sound_of c.requires.inside) c.slot_of-home.ensures
 
 pub ahead_of-ahead-requires : goal.ahead_of-ahead-requires
 ahead_of-ahead-requires g c =
     let rows = c.args.rows.now in
     let heads = c.args.heads.now in
-    let i = c.args.i in
     let link = map g.R.Chained.link_of rows in
     let hash = map g.R.Chained.hash_of rows in
     let s = size c.args.self.now in
-    let sound = sound_of s heads link hash c.requires.inside in
+    let sound = sound_of c.requires.inside in
     let t = c.slot_of-home.result in
     let te = c.slot_of-home.ensures ∙ ap (λ x. slot s x) c.hash_of.ensures in
-    let below = home_of s heads link hash t c.hash_of.result sound c.slot_of-home.ensures in
-    let old = get_or_default heads t 0 none below in
+    let old = head_of c.hash_of.result sound c.slot_of-home.ensures in
     record {
-      few = omega (arith, few_of s heads link hash sound, length-map rows g.R.Chained.link_of);
+      few = omega (arith, few_of sound, length-map rows g.R.Chained.link_of);
       later = c.if-first-i.false;
       inside = ∥∥₁_map c.requires.inside (λ x.
-          let h = home_chain s heads link hash x.0 i t x.1 te x.2 in
+          let h = home_chain s heads link hash x.0 c.args.i t x.1 te x.2 in
           (h.0, subst (λ f. Chain link f h.0) (sym old) h.1, h.2, h.3));
     }
 
 pub returns-then-first-i : goal.returns-then-first-i
 returns-then-first-i g c =
-    let rows = c.args.rows.now in
     let heads = c.args.heads.now in
     let i = c.args.i in
-    let link = map g.R.Chained.link_of rows in
-    let hash = map g.R.Chained.hash_of rows in
+    let link = map g.R.Chained.link_of c.args.rows.now in
+    let hash = map g.R.Chained.hash_of c.args.rows.now in
     let s = size c.args.self.now in
-    let sound = sound_of s heads link hash c.requires.inside in
     let t = c.slot_of-home.result in
     let te = c.slot_of-home.ensures ∙ ap (λ x. slot s x) c.hash_of.ensures in
-    let below = home_of s heads link hash t c.hash_of.result sound c.slot_of-home.ensures in
-    let old = get_or_default heads t 0 none below in
+    let old = head_of c.hash_of.result (sound_of c.requires.inside) c.slot_of-home.ensures in
     let heads' = set heads t c.link_of-behind.result in
     let held : (ids : List ℕ) → Holds s heads link hash ids → count i ids ≡ 1 → Holds s heads' link hash (without i ids) =
     λ ids h here.
@@ -90,17 +60,14 @@ returns-then-first-i g c =
 
 pub returns-else-first-i : goal.returns-else-first-i
 returns-else-first-i g c =
-    let rows = c.args.rows.now in
     let heads = c.args.heads.now in
     let i = c.args.i in
-    let link = map g.R.Chained.link_of rows in
-    let hash = map g.R.Chained.hash_of rows in
+    let link = map g.R.Chained.link_of c.args.rows.now in
+    let hash = map g.R.Chained.hash_of c.args.rows.now in
     let s = size c.args.self.now in
-    let sound = sound_of s heads link hash c.requires.inside in
     let t = c.slot_of-home.result in
     let te = c.slot_of-home.ensures ∙ ap (λ x. slot s x) c.hash_of.ensures in
-    let below = home_of s heads link hash t c.hash_of.result sound c.slot_of-home.ensures in
-    let old = get_or_default heads t 0 none below in
+    let old = head_of c.hash_of.result (sound_of c.requires.inside) c.slot_of-home.ensures in
     let p = c.ahead_of-ahead.result in
     let told = c.ahead_of-ahead.ensures in
     let aimed = c.aim.ensures in
