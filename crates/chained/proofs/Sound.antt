@@ -60,8 +60,8 @@ rehashed size heads link hash ids i v out h =
     absent_either a b n e = grind arith
 
 -- a slot past those in use is empty
-pub past_empty : (size : ℕ × ℕ) (heads link hash ids : List ℕ) (s : ℕ) → Holds size heads link hash ids → size.0 ≤ s → get_or heads s none ≡ none
-past_empty size heads link hash ids s h past = go (h.slots s).0 (h.slots s).1 (h.slots s).2
+pub past_empty : {size : ℕ × ℕ} {heads link hash ids : List ℕ} (s : ℕ) → Holds size heads link hash ids → size.0 ≤ s → get_or heads s none ≡ none
+past_empty {size} {heads} {link} {hash} {ids} s h past = go (h.slots s).0 (h.slots s).1 (h.slots s).2
   where
     go : (chain : List ℕ) → Chain link (get_or heads s none) chain → ((i : ℕ) → count i chain ≡ cond (eqb (slot size (get_or hash i 0)) s) (count i ids) 0) → get_or heads s none ≡ none
     go [] ch counts = ch
@@ -73,6 +73,5 @@ past_empty size heads link hash ids s h past = go (h.slots s).0 (h.slots s).1 (h
         absurd (omega arith)
 
 -- so it is the same after any change
-pub past_same : (size size' : ℕ × ℕ) (heads heads' link link' hash hash' ids ids' : List ℕ) (s : ℕ) → Holds size heads link hash ids → Holds size' heads' link' hash' ids' → size'.0 ≡ size.0 → size.0 ≤ s → get_or heads' s none ≡ get_or heads s none
-past_same size size' heads heads' link link' hash hash' ids ids' s h h' same past =
-    past_empty size' heads' link' hash' ids' s h' (omega arith) ∙ sym (past_empty size heads link hash ids s h past)
+pub past_same : {size size' : ℕ × ℕ} {heads heads' link link' hash hash' ids ids' : List ℕ} (s : ℕ) → Holds size heads link hash ids → Holds size' heads' link' hash' ids' → size'.0 ≡ size.0 → size.0 ≤ s → get_or heads' s none ≡ get_or heads s none
+past_same s h h' same past = past_empty s h' (omega arith) ∙ sym (past_empty s h past)

@@ -34,11 +34,11 @@ returns g c =
     let te = c.slot_of-home.ensures ∙ ap (λ x. slot s x) c.hash_of.ensures in
     let old = head_of c.hash_of.result (sound_of c.requires.outside) c.slot_of-home.ensures in
     holds_as s (i ∷ ids) refl (c.aim.ensures.links ∙ ap (λ v. set link i v) old) c.aim.ensures.hashes
-    (inserted s heads link hash ids i t h te (omega (arith, c.requires.within, length-map rows g.R.Chained.link_of)) out) in
+    (inserted i h te (omega (arith, c.requires.within, length-map rows g.R.Chained.link_of)) out) in
     record {
       held = held;
       rest = c.aim.ensures.rest;
       others = c.aim.ensures.others;
-      past = λ ids h out x past. past_same s s heads (set heads t i) link link' hash hash' ids (i ∷ ids) x h (held ids h out) refl past;
+      past = λ ids h out x past. past_same x h (held ids h out) refl past;
       keys = λ key_of ids blind. one_row_more g.R.Chained.bare key_of blind new rows c.aim.ensures.rest ids i;
     }

@@ -37,5 +37,5 @@ returns-then-self-gt0 g c =
       moved = refl;
       held = held;
       rest = c.insert_all.ensures.rest;
-      past = λ ids h x past. past_same (table.slots, table.unmoved) (table.slots, table.unmoved - 1) heads heads' link link' hash hash' ids ids x h (held ids h) refl past;
+      past = λ ids h x past. past_same x h (held ids h) refl past;
     }
