@@ -23,7 +23,7 @@ loop-at-init g c =
     let t = c.slot_of-home.result in (
       omega (arith, c.type_inv.heads t),
       λ ids h.
-          ahead_start (size c.args.self.now) heads _ _ ids _ c.hash-hash.result (get_or heads t 0) h
+          ahead_start _ c.hash-hash.result (get_or heads t 0) h
           (head_of c.hash-hash.result c.requires c.slot_of-home.ensures ∙ ap (λ x. get_or heads x none) {y = slot (size c.args.self.now) c.hash-hash.result} c.slot_of-home.ensures)
           (λ k held other d same _. other (get_or-map g.R.Chained.hash_of rows k d 0 (omega (arith, held_within h k held, length-map rows g.R.Chained.link_of)) ∙ same)),
     )
@@ -39,7 +39,7 @@ returns-then-has_key g c = λ ids h.
     let rows = c.args.rows.now in
     let at = c.loop-at.at in
     let lt = met_row g.R.Chained.link_of rows c.requires c.loop-at.invariant.1 c.loop-at-test.true in (
-      omega (arith, h.once at, ahead_held _ ids _ at (c.loop-at.invariant.1 ids h) c.loop-at-test.true),
+      omega (arith, h.once at, ahead_held _ ids (c.loop-at.invariant.1 ids h) c.loop-at-test.true),
       λ d. ap (λ r. g.C.Keyed.key_of c.args.keys.now at r) (get_or_default rows at d c.index-rows-at.result lt ∙ sym c.index-rows-at.is) ∙ c.has_key.ensures.0 c.if-has_key.true,
     )
 
@@ -67,10 +67,10 @@ loop-at-preserved g c =
       | else-hash-via-else-hash w ↦ w.if-hash.false (c.hash.ensures ∙ ap g.R.Chained.hash_of (sym (row_is d)) ∙ same)
     ] in (
       omega (arith, c.link-at.type_inv),
-      λ ids h. subst (λ f. Ahead link ids P f) (sym to) (ahead_more link ids P at (c.loop-at.invariant.1 ids h) c.loop-at-test.true passed),
+      λ ids h. subst (λ f. Ahead link ids P f) (sym to) (ahead_more link ids (c.loop-at.invariant.1 ids h) c.loop-at-test.true passed),
     )
 
 pub returns : goal.returns
 returns g c = λ ids h i d held kept key.
-    ahead_none _ ids _ c.loop-at.at (c.loop-at.invariant.1 ids h) h.few c.loop-at-test.false i (omega arith) d
+    ahead_none _ ids (c.loop-at.invariant.1 ids h) h.few c.loop-at-test.false i (omega arith) d
     (kept ∙ ap g.C.Keyed.hashed key ∙ sym c.hash-hash.ensures) key
