@@ -1,6 +1,6 @@
 -- What an insertion and a removal make of a table.
 use Rattle.std.proofs.Common.{◌≡◌, ℕ, ◌+◌, ◌*◌, ◌<◌, ◌≤◌, cond, eqb, List, [], ◌∷◌, length, get_or, set, sym, refl, ap, ◌∙◌, subst, ⊎_elim, arith, length-set}
-use Rattle.std.proofs.lemmas.List.{get_or-set_same, get_or-set_other, get_or_past}
+use Rattle.std.proofs.lemmas.List.{get_or_default, get_or-set_same, get_or-set_other, get_or_past}
 use Rattle.std.proofs.lemmas.Bool.{cases_eq, cases_lt}
 use Rattle.std.proofs.lemmas.Bool.Decides.{nat_tests}
 use Rattle.recency.specs.Numbers.{none, count, without}
@@ -31,11 +31,11 @@ count_other : (k i sk si s a b : ℕ) → (k ≡ i → sk ≡ si) → (s ≡ si 
 count_other k i sk si s a b same ne e = grind (arith, nat_tests)
 
 -- the row i is put at the head of its slot t
-module _ (size : ℕ × ℕ) (heads link hash ids : List ℕ) (i t : ℕ) (h : Holds size heads link hash ids) (te : t ≡ slot size (get_or hash i 0)) where
+module _ {size : ℕ × ℕ} {heads link hash ids : List ℕ} (i : ℕ) {t : ℕ} (h : Holds size heads link hash ids) (te : t ≡ slot size (get_or hash i 0)) where
   at_home : (k : ℕ) → k ≡ i → slot size (get_or hash k 0) ≡ t
   at_home k e = ap (λ x. slot size (get_or hash x 0)) e ∙ sym te
 
-  pub home_below : t < length heads
+  home_below : t < length heads
   home_below = omega (arith, te, slot_below size.0 size.1 (get_or hash i 0) h.least h.moving, h.room)
 
   away : (s : ℕ) → (s ≡ t → ⊥) → count i (h.slots s).0 ≡ 0
@@ -91,10 +91,10 @@ left_other : (k i sk t s a b : ℕ) → (k ≡ i → sk ≡ t) → (s ≡ t → 
 left_other k i sk t s a b same ne e = grind (arith, nat_tests)
 
 -- the row i is taken out of its slot t
-module _ (size : ℕ × ℕ) (heads link hash ids : List ℕ) (i t : ℕ) (h : Holds size heads link hash ids) (te : t ≡ slot size (get_or hash i 0)) (here : count i ids ≡ 1) where
+module _ {size : ℕ × ℕ} {heads link hash ids : List ℕ} (i : ℕ) {t : ℕ} (h : Holds size heads link hash ids) (te : t ≡ slot size (get_or hash i 0)) (here : count i ids ≡ 1) where
   out_counts : (s : ℕ) (chain : List ℕ) → (s ≡ t → ⊥) → ((k : ℕ) → count k chain ≡ cond (eqb (slot size (get_or hash k 0)) s) (count k ids) 0) → (k : ℕ) → count k chain ≡ cond (eqb (slot size (get_or hash k 0)) s) (count k (without i ids)) 0
   out_counts s chain ne counts k =
-      left_other k i (slot size (get_or hash k 0)) t s (count k chain) (count k ids) (at_home size heads link hash ids i t h te k) ne (counts k)
+      left_other k i (slot size (get_or hash k 0)) t s (count k chain) (count k ids) (at_home i h te k) ne (counts k)
       ∙ ap (λ n. cond (eqb (slot size (get_or hash k 0)) s) n 0) (sym (count_without k i ids))
 
   out_once : (k : ℕ) → count k (without i ids) ≤ 1
@@ -104,16 +104,19 @@ module _ (size : ℕ × ℕ) (heads link hash ids : List ℕ) (i t : ℕ) (h : H
   row_within =
       let c = h.slots t in
       chain_within link (get_or heads t none) c.0 i c.1
-      (let e = c.2 i in let q = at_home size heads link hash ids i t h te i refl in grind (arith, nat_tests))
+      (let e = c.2 i in let q = at_home i h te i refl in grind (arith, nat_tests))
+
+  head : get_or heads t 0 ≡ get_or heads t none
+  head = get_or_default heads t 0 none (home_below i h te)
 
   -- its chain
-  pub home_chain : (chain : List ℕ) × Chain link (get_or heads t none) chain × ((k : ℕ) → count k chain ≤ 1) × (count i chain ≡ 1)
+  pub home_chain : (chain : List ℕ) × Chain link (get_or heads t 0) chain × ((k : ℕ) → count k chain ≤ 1) × (count i chain ≡ 1)
   home_chain =
       let c = h.slots t in (
         c.0,
-        c.1,
+        subst (λ f. Chain link f c.0) (sym head) c.1,
         λ k. let e = c.2 k in let o = h.once k in grind (arith, nat_tests),
-        let e = c.2 i in let q = at_home size heads link hash ids i t h te i refl in grind (arith, nat_tests),
+        let e = c.2 i in let q = at_home i h te i refl in grind (arith, nat_tests),
       )
 
   -- what is in its chain is held, in its slot
@@ -122,18 +125,18 @@ module _ (size : ℕ × ℕ) (heads link hash ids : List ℕ) (i t : ℕ) (h : H
   home_slot p among = let e = (h.slots t).2 p in (grind (arith, nat_tests), grind (arith, nat_tests))
 
   -- it is the first of its chain
-  module _ (front : get_or heads t none ≡ i) where
+  module _ (front : get_or heads t 0 ≡ i) where
     first_out_here : Slot size (set heads t (get_or link i none)) link hash (without i ids) t
     first_out_here =
         let c = h.slots t in
         let lt = row_within in
         let f = h.few in
-        let s = chain_step link i c.0 (λ e. omega arith) (chain_from link (get_or heads t none) i c.0 front c.1) in
+        let s = chain_step link i c.0 (λ e. omega arith) (chain_from link (get_or heads t none) i c.0 (sym head ∙ front) c.1) in
         let v = get_or link i none in (
           s.0,
-          chain_from link v (get_or (set heads t v) t none) s.0 (sym (get_or-set_same heads t v none (home_below size heads link hash ids i t h te))) s.3,
+          chain_from link v (get_or (set heads t v) t none) s.0 (sym (get_or-set_same heads t v none (home_below i h te))) s.3,
           λ k.
-              left_behind k i (slot size (get_or hash k 0)) t (count k s.0) (count k ids) (at_home size heads link hash ids i t h te k) (h.once k) (ap (λ ys. count k ys) (sym s.1) ∙ c.2 k)
+              left_behind k i (slot size (get_or hash k 0)) t (count k s.0) (count k ids) (at_home i h te k) (h.once k) (ap (λ ys. count k ys) (sym s.1) ∙ c.2 k)
               ∙ ap (λ n. cond (eqb (slot size (get_or hash k 0)) t) n 0) (sym (count_without k i ids)),
         )
 

@@ -1,7 +1,9 @@
 -- The rows of an old slot are cut off, and put into the table again.
 use Rattle.std.proofs.Common.{◌≡◌, ℕ, ◌+◌, ◌-◌, ◌<◌, ◌≤◌, cond, eqb, List, [], ◌∷◌, map, length, get_or, set, sym, refl, ap, ◌∙◌, subst, ⊎_elim, arith, length-set}
+use native.Mathlib.Bridge.{le_prop}
+use mathlib.Core.Logic.{∥∥₁_elim}
 use lib.ListN.{length-map}
-use Rattle.std.proofs.lemmas.List.{get_or-set_same, get_or-set_other, get_or-map, get_or_past}
+use Rattle.std.proofs.lemmas.List.{get_or_default, get_or-set_same, get_or-set_other, get_or-map, get_or_past}
 use Rattle.std.proofs.lemmas.Bool.{cases_eq, cases_lt}
 use Rattle.std.proofs.lemmas.Bool.Decides.{nat_tests}
 use Rattle.recency.specs.Numbers.{none, count, without, Apart}
@@ -51,7 +53,7 @@ cut_there : (sk sk' s t a x b l : ℕ) → ((sk ≡ s → ⊥) → sk' ≡ sk) �
 cut_there sk sk' s t a x b l stays ne e f g = grind (arith, nat_tests)
 
 -- the last old slot is cut off
-module _ (slots unmoved : ℕ) (heads link hash ids : List ℕ) (h : Holds (slots, unmoved) heads link hash ids) (some : 0 < unmoved) where
+module _ {slots unmoved : ℕ} {heads link hash ids : List ℕ} (h : Holds (slots, unmoved) heads link hash ids) (some : 0 < unmoved) where
   pub off : List ℕ
   off = (h.slots (unmoved - 1)).0
 
@@ -61,9 +63,9 @@ module _ (slots unmoved : ℕ) (heads link hash ids : List ℕ) (h : Holds (slot
   pub old_below : unmoved - 1 < length heads
   old_below = omega (arith, h.moving, h.room, h.least)
 
-  pub off_chain : Chain link (get_or heads (unmoved - 1) none) off
+  pub off_chain : Chain link (get_or heads (unmoved - 1) 0) off
   unfolding off
-  off_chain = (h.slots (unmoved - 1)).1
+  off_chain = subst (λ f. Chain link f off) (sym (get_or_default heads (unmoved - 1) 0 none old_below)) (h.slots (unmoved - 1)).1
 
   pub off_apart : Apart off (less off ids)
   unfolding off
@@ -114,15 +116,15 @@ abbrev pub Pouring : ℕ × ℕ → List ℕ → List ℕ → List ℕ → ℕ �
 Pouring size heads link hash at goal =
     (ids : List ℕ) × (rest : List ℕ) × Holds size heads link hash ids × Chain link at rest × Apart rest ids × (poured rest ids ≡ goal)
 
-pub pour_end : (size : ℕ × ℕ) (heads link hash : List ℕ) (at : ℕ) (goal : List ℕ) → at ≡ none → Pouring size heads link hash at goal → Holds size heads link hash goal
-pour_end size heads link hash at goal e p = go p.1 p.3 p.5
+pub pour_end : {size : ℕ × ℕ} {heads link hash : List ℕ} {at : ℕ} {goal : List ℕ} → at ≡ none → Pouring size heads link hash at goal → Holds size heads link hash goal
+pour_end {size} {heads} {link} {hash} {at} {goal} e p = go p.1 p.3 p.5
   where
     go : (rest : List ℕ) → Chain link at rest → poured rest p.0 ≡ goal → Holds size heads link hash goal
     go [] ch done = subst (λ xs. Holds size heads link hash xs) done p.2
     go (x ∷ rest) ch done = absurd (omega (arith, ch.0, ch.1, p.2.few, e))
 
 -- the next row of the chain
-module _ (size : ℕ × ℕ) (heads link hash : List ℕ) (at : ℕ) (goal : List ℕ) (p : Pouring size heads link hash at goal) (ne : at ≡ none → ⊥) where
+module _ {size : ℕ × ℕ} {heads link hash : List ℕ} {at : ℕ} {goal : List ℕ} (p : Pouring size heads link hash at goal) (ne : at ≡ none → ⊥) where
   pub pour_within : at < length link
   pour_within = (chain_step link at p.1 ne p.3).2
 
@@ -131,7 +133,7 @@ module _ (size : ℕ × ℕ) (heads link hash : List ℕ) (at : ℕ) (goal : Lis
       let s = chain_step link at p.1 ne p.3 in
       omega (arith, p.4 at, ap (λ ys. count at ys) s.1, present_head at s.0)
 
-  module _ (link' : List ℕ) (to : ℕ) (same : length link' ≡ length link) (agree : (k : ℕ) → (k ≡ at → ⊥) → get_or link' k none ≡ get_or link k none) (te : to ≡ get_or link at none) where
+  module _ (link' : List ℕ) {to : ℕ} (same : length link' ≡ length link) (agree : (k : ℕ) → (k ≡ at → ⊥) → get_or link' k none ≡ get_or link k none) (te : to ≡ get_or link at none) where
     next_chain : Chain link' to (chain_step link at p.1 ne p.3).0
     next_chain =
         let s = chain_step link at p.1 ne p.3 in
@@ -147,8 +149,8 @@ module _ (size : ℕ × ℕ) (heads link hash : List ℕ) (at : ℕ) (goal : Lis
         (subst (λ ys. Chain link at ys) s.1 p.3)
         next_chain
 
-    pub pour_more : (heads' hash' : List ℕ) → Holds size heads' link' hash' (at ∷ p.0) → Pouring size heads' link' hash' to goal
-    pour_more heads' hash' h =
+    pub pour_more : {heads' hash' : List ℕ} → Holds size heads' link' hash' (at ∷ p.0) → Pouring size heads' link' hash' to goal
+    pour_more h =
         let s = chain_step link at p.1 ne p.3 in (
           at ∷ p.0,
           s.0,
@@ -158,11 +160,21 @@ module _ (size : ℕ × ℕ) (heads link hash : List ℕ) (at : ℕ) (goal : Lis
           ap (λ ys. poured ys p.0) (sym s.1) ∙ p.5,
         )
 
+-- the same, where some rows are only known to be there
+pub pours_row : {R : Type 0} {size : ℕ × ℕ} {heads hash : List ℕ} {at : ℕ} (link_of : R → ℕ) (rows : List R) → ∥ ((goal : List ℕ) × Pouring size heads (map link_of rows) hash at goal) ∥₁ → (at ≡ none → ⊥) → at < length rows
+pours_row link_of rows pours ne = omega (arith, ∥∥₁_elim pours le_prop (λ x. pour_within x.1 ne), length-map rows link_of)
+
+-- columns of the same rows are of one length
+pub columns_even : {R : Type 0} (bare : R → R) (f : R → ℕ) (new old : List R) → map bare new ≡ map bare old → length (map f new) ≡ length (map f old)
+columns_even bare f new old rest = length-map new f ∙ sym (length-map new bare) ∙ ap length rest ∙ length-map old bare ∙ sym (length-map old f)
+
 -- a column agrees where the rows do
-pub column_agree : {R : Type 0} (f : R → ℕ) (new old : List R) (k : ℕ) → length new ≡ length old → ((d : R) → get_or new k d ≡ get_or old k d) → get_or (map f new) k none ≡ get_or (map f old) k none
-column_agree f new [] k same agree = get_or_past (map f new) k none (simp length-map (omega arith))
-column_agree f new (r ∷ old) k same agree =
+pub column_agree : {R : Type 0} (f : R → ℕ) (new old : List R) (at : ℕ) → length (map f new) ≡ length (map f old) → ((k : ℕ) (d : R) → (k ≡ at → ⊥) → get_or new k d ≡ get_or old k d) → (k : ℕ) → (k ≡ at → ⊥) → get_or (map f new) k none ≡ get_or (map f old) k none
+column_agree f new [] at same agree k off = get_or_past (map f new) k none (omega arith)
+column_agree f new (r ∷ old) at same agree k off =
+    let n = length-map new f in
+    let o = length-map (r ∷ old) f in
     ⊎_elim
-    (λ (lt : k < length (r ∷ old)). get_or-map f new k r none (omega arith) ∙ ap f (agree r) ∙ sym (get_or-map f (r ∷ old) k r none lt))
-    (λ (past : length (r ∷ old) ≤ k). get_or_past (map f new) k none (simp length-map (omega arith)) ∙ sym (get_or_past (map f (r ∷ old)) k none (simp length-map past)))
+    (λ (lt : k < length (r ∷ old)). get_or-map f new k r none (omega arith) ∙ ap f (agree k r off) ∙ sym (get_or-map f (r ∷ old) k r none lt))
+    (λ (past : length (r ∷ old) ≤ k). get_or_past (map f new) k none (omega arith) ∙ sym (get_or_past (map f (r ∷ old)) k none (omega arith)))
     (cases_lt k (length (r ∷ old)))

@@ -1,7 +1,8 @@
 -- A search along a chain: what lies ahead.
-use Rattle.std.proofs.Common.{◌≡◌, ℕ, ◌<◌, ◌≤◌, List, [], ◌∷◌, length, get_or, sym, refl, ap, ◌∙◌, subst, ⊎_elim, arith}
+use Rattle.std.proofs.Common.{◌≡◌, ℕ, ◌<◌, ◌≤◌, List, [], ◌∷◌, map, length, get_or, sym, refl, ap, ◌∙◌, subst, ⊎_elim, arith}
 use native.Mathlib.Bridge.{le_prop}
 use mathlib.Core.Logic.{∥∥₁_elim}
+use lib.ListN.{length-map}
 use Rattle.std.proofs.lemmas.Bool.{cases_eq}
 use Rattle.std.proofs.lemmas.Bool.Decides.{nat_tests}
 use Rattle.recency.specs.Numbers.{none, count}
@@ -20,7 +21,7 @@ Ahead link ids P at =
 abbrev pub Unlike : {R : Type 0} → (R → ℕ) → (ℕ → R → List ℕ) → List R → ℕ → List ℕ → ℕ → Type 0
 Unlike {R} hash_of key_of rows h key k = (d : R) → hash_of (get_or rows k d) ≡ h → key_of k (get_or rows k d) ≡ key → ⊥
 
-module _ (link ids : List ℕ) (P : ℕ → Type 0) (at : ℕ) (ahead : Ahead link ids P at) where
+module _ (link ids : List ℕ) {P : ℕ → Type 0} {at : ℕ} (ahead : Ahead link ids P at) where
   -- a row that is met is held
   pub ahead_held : (at ≡ none → ⊥) → 0 < count at ids
   ahead_held ne =
@@ -62,8 +63,8 @@ module _ (link ids : List ℕ) (P : ℕ → Type 0) (at : ℕ) (ahead : Ahead li
       empty (x ∷ rest) ch = absurd (omega (arith, ch.0, ch.1, few, e))
 
 -- at the start of the chain of a hash, what has another hash is passed
-pub ahead_start : (size : ℕ × ℕ) (heads link hash ids : List ℕ) (P : ℕ → Type 0) (h at : ℕ) → Holds size heads link hash ids → at ≡ get_or heads (slot size h) none → ((k : ℕ) → 0 < count k ids → (get_or hash k 0 ≡ h → ⊥) → P k) → Ahead link ids P at
-ahead_start size heads link hash ids P h at holds e other =
+pub ahead_start : {size : ℕ × ℕ} {heads link hash ids : List ℕ} (P : ℕ → Type 0) (h at : ℕ) → Holds size heads link hash ids → at ≡ get_or heads (slot size h) none → ((k : ℕ) → 0 < count k ids → (get_or hash k 0 ≡ h → ⊥) → P k) → Ahead link ids P at
+ahead_start {size} {heads} {link} {hash} {ids} P h at holds e other =
     let c = holds.slots (slot size h) in (
       c.0,
       subst (λ f. Chain link f c.0) (sym e) c.1,
@@ -72,8 +73,8 @@ ahead_start size heads link hash ids P h at holds e other =
     )
 
 -- the rows held are among the rows
-pub held_within : (size : ℕ × ℕ) (heads link hash ids : List ℕ) → Holds size heads link hash ids → (k : ℕ) → 0 < count k ids → k < length link
-held_within size heads link hash ids holds k held =
+pub held_within : {size : ℕ × ℕ} {heads link hash ids : List ℕ} → Holds size heads link hash ids → (k : ℕ) → 0 < count k ids → k < length link
+held_within {size} {heads} {link} {hash} holds k held =
     let c = holds.slots (slot size (get_or hash k 0)) in
     chain_within link (get_or heads (slot size (get_or hash k 0)) none) c.0 k c.1 (let q = c.2 k in grind (arith, nat_tests))
 
@@ -89,12 +90,16 @@ held_same size heads link hash ids ids' h h' k =
     grind (arith, nat_tests)
 
 -- the same, where the table is only known to be sound
-module _ (size : ℕ × ℕ) (heads link hash : List ℕ) (P : ℕ → Type 0) (at : ℕ) (sound : Sound size heads link hash) (ahead : (ids : List ℕ) → Holds size heads link hash ids → Ahead link ids P at) (ne : at ≡ none → ⊥) where
+module _ {size : ℕ × ℕ} {heads link hash : List ℕ} {P : ℕ → Type 0} {at : ℕ} (sound : Sound size heads link hash) (ahead : (ids : List ℕ) → Holds size heads link hash ids → Ahead link ids P at) (ne : at ≡ none → ⊥) where
   pub met_within : at < length link
-  met_within = ∥∥₁_elim sound le_prop (λ s. ahead_within link s.0 P at (ahead s.0 s.1) ne)
+  met_within = ∥∥₁_elim sound le_prop (λ s. ahead_within link s.0 (ahead s.0 s.1) ne)
 
   pub met_less : (to : ℕ) → to ≡ get_or link at none → steps (length link) link to < steps (length link) link at
-  met_less to e = ∥∥₁_elim sound le_prop (λ s. ahead_less link s.0 P at (ahead s.0 s.1) to s.1.few s.1.once ne e)
+  met_less to e = ∥∥₁_elim sound le_prop (λ s. ahead_less link s.0 (ahead s.0 s.1) to s.1.few s.1.once ne e)
+
+-- the row that is met is one of the rows
+pub met_row : {R : Type 0} {size : ℕ × ℕ} {heads hash : List ℕ} {P : ℕ → Type 0} {at : ℕ} (link_of : R → ℕ) (rows : List R) → Sound size heads (map link_of rows) hash → ((ids : List ℕ) → Holds size heads (map link_of rows) hash ids → Ahead (map link_of rows) ids P at) → (at ≡ none → ⊥) → at < length rows
+met_row link_of rows sound ahead ne = omega (arith, met_within sound ahead ne, length-map rows link_of)
 
 -- a search for the row that names i, in a chain that has i
 module _ (link : List ℕ) (first i : ℕ) where
@@ -110,19 +115,19 @@ module _ (link : List ℕ) (first i : ℕ) where
 
   module _ (few : length link ≤ none) (at : ℕ) (toward : Toward at) where
     some : (chain : List ℕ) → Chain link first chain → ((k : ℕ) → count k chain ≤ 1) → count i chain ≡ 1 → at ≡ none → ⊥
-    some chain ch once here e = ahead_none link chain (λ k. k ≡ i → ⊥) at (toward chain ch once here) few e i (omega arith) refl
+    some chain ch once here e = ahead_none link chain (toward chain ch once here) few e i (omega arith) refl
 
     pub toward_among : (chain : List ℕ) → Chain link first chain → ((k : ℕ) → count k chain ≤ 1) → count i chain ≡ 1 → count at chain ≡ 1
     toward_among chain ch once here =
-        omega (arith, once at, ahead_held link chain (λ k. k ≡ i → ⊥) at (toward chain ch once here) (some chain ch once here))
+        omega (arith, once at, ahead_held link chain (toward chain ch once here) (some chain ch once here))
 
     pub toward_more : (at ≡ i → ⊥) → Toward (get_or link at none)
-    toward_more ne chain ch once here = ahead_more link chain (λ k. k ≡ i → ⊥) at (toward chain ch once here) (some chain ch once here) ne
+    toward_more ne chain ch once here = ahead_more link chain (toward chain ch once here) (some chain ch once here) ne
 
     pub toward_within : Lies → at < length link
     toward_within lies =
-        ∥∥₁_elim lies le_prop (λ s. ahead_within link s.0 (λ k. k ≡ i → ⊥) at (toward s.0 s.1 s.2 s.3) (some s.0 s.1 s.2 s.3))
+        ∥∥₁_elim lies le_prop (λ s. ahead_within link s.0 (toward s.0 s.1 s.2 s.3) (some s.0 s.1 s.2 s.3))
 
     pub toward_less : Lies → (to : ℕ) → to ≡ get_or link at none → steps (length link) link to < steps (length link) link at
     toward_less lies to e =
-        ∥∥₁_elim lies le_prop (λ s. ahead_less link s.0 (λ k. k ≡ i → ⊥) at (toward s.0 s.1 s.2 s.3) to few s.2 (some s.0 s.1 s.2 s.3) e)
+        ∥∥₁_elim lies le_prop (λ s. ahead_less link s.0 (toward s.0 s.1 s.2 s.3) to few s.2 (some s.0 s.1 s.2 s.3) e)

@@ -2,7 +2,7 @@
 use Rattle.std.proofs.Common.{◌≡◌, ℕ, ◌<◌, ◌≤◌, cond, eqb, List, [], ◌∷◌, length, get_or, set, sym, ap, ◌∙◌, ⊎_elim, arith}
 use native.Mathlib.Bridge.{le_prop}
 use mathlib.Core.Logic.{∥∥₁_elim, ∥∥₁_map}
-use Rattle.std.proofs.lemmas.List.{get_or-set_other}
+use Rattle.std.proofs.lemmas.List.{get_or_default, get_or-set_other}
 use Rattle.std.proofs.lemmas.Bool.{cases_eq}
 use Rattle.std.proofs.lemmas.Bool.Decides.{nat_tests}
 use Rattle.recency.proofs.Links.{present_head}
@@ -15,18 +15,22 @@ use Rattle.chained.proofs.Sizes.{slot_below}
 abbrev pub Sound : ℕ × ℕ → List ℕ → List ℕ → List ℕ → Type 0
 Sound size heads link hash = ∥ ((ids : List ℕ) × Holds size heads link hash ids) ∥₁
 
-pub sound_of : {P : List ℕ → Type 0} (size : ℕ × ℕ) (heads link hash : List ℕ) → ∥ ((ids : List ℕ) × Holds size heads link hash ids × P ids) ∥₁ → Sound size heads link hash
-sound_of size heads link hash t = ∥∥₁_map t (λ s. (s.0, s.1))
+pub sound_of : {P : List ℕ → Type 0} {size : ℕ × ℕ} {heads link hash : List ℕ} → ∥ ((ids : List ℕ) × Holds size heads link hash ids × P ids) ∥₁ → Sound size heads link hash
+sound_of t = ∥∥₁_map t (λ s. (s.0, s.1))
 
-pub least_of : (size : ℕ × ℕ) (heads link hash : List ℕ) → Sound size heads link hash → 16 ≤ size.0
-least_of size heads link hash t = ∥∥₁_elim t le_prop (λ s. s.1.least)
+pub least_of : {size : ℕ × ℕ} {heads link hash : List ℕ} → Sound size heads link hash → 16 ≤ size.0
+least_of t = ∥∥₁_elim t le_prop (λ s. s.1.least)
 
-pub few_of : (size : ℕ × ℕ) (heads link hash : List ℕ) → Sound size heads link hash → length link ≤ none
-few_of size heads link hash t = ∥∥₁_elim t le_prop (λ s. s.1.few)
+pub few_of : {size : ℕ × ℕ} {heads link hash : List ℕ} → Sound size heads link hash → length link ≤ none
+few_of t = ∥∥₁_elim t le_prop (λ s. s.1.few)
 
-pub home_of : (size : ℕ × ℕ) (heads link hash : List ℕ) (x h : ℕ) → Sound size heads link hash → x ≡ slot size h → x < length heads
-home_of size heads link hash x h t e =
+pub home_of : {size : ℕ × ℕ} {heads link hash : List ℕ} {x : ℕ} (h : ℕ) → Sound size heads link hash → x ≡ slot size h → x < length heads
+home_of {size} h t e =
     ∥∥₁_elim t le_prop (λ s. omega (arith, slot_below size.0 size.1 h s.1.least s.1.moving, s.1.room, e))
+
+-- the head of a slot in use, whatever stands for a head past them all
+pub head_of : {size : ℕ × ℕ} {heads link hash : List ℕ} {x : ℕ} (h : ℕ) → Sound size heads link hash → x ≡ slot size h → get_or heads x 0 ≡ get_or heads x none
+head_of {size} {heads} {x = x} h t e = get_or_default heads x 0 none (home_of h t e)
 
 pub holds_as : (size : ℕ × ℕ) (ids : List ℕ) {heads heads' link link' hash hash' : List ℕ} → heads' ≡ heads → link' ≡ link → hash' ≡ hash → Holds size heads link hash ids → Holds size heads' link' hash' ids
 holds_as size ids eh el ea h = rw (eh, el, ea) h
@@ -56,8 +60,8 @@ rehashed size heads link hash ids i v out h =
     absent_either a b n e = grind arith
 
 -- a slot past those in use is empty
-pub past_empty : (size : ℕ × ℕ) (heads link hash ids : List ℕ) (s : ℕ) → Holds size heads link hash ids → size.0 ≤ s → get_or heads s none ≡ none
-past_empty size heads link hash ids s h past = go (h.slots s).0 (h.slots s).1 (h.slots s).2
+pub past_empty : {size : ℕ × ℕ} {heads link hash ids : List ℕ} (s : ℕ) → Holds size heads link hash ids → size.0 ≤ s → get_or heads s none ≡ none
+past_empty {size} {heads} {link} {hash} {ids} s h past = go (h.slots s).0 (h.slots s).1 (h.slots s).2
   where
     go : (chain : List ℕ) → Chain link (get_or heads s none) chain → ((i : ℕ) → count i chain ≡ cond (eqb (slot size (get_or hash i 0)) s) (count i ids) 0) → get_or heads s none ≡ none
     go [] ch counts = ch
@@ -69,6 +73,5 @@ past_empty size heads link hash ids s h past = go (h.slots s).0 (h.slots s).1 (h
         absurd (omega arith)
 
 -- so it is the same after any change
-pub past_same : (size size' : ℕ × ℕ) (heads heads' link link' hash hash' ids ids' : List ℕ) (s : ℕ) → Holds size heads link hash ids → Holds size' heads' link' hash' ids' → size'.0 ≡ size.0 → size.0 ≤ s → get_or heads' s none ≡ get_or heads s none
-past_same size size' heads heads' link link' hash hash' ids ids' s h h' same past =
-    past_empty size' heads' link' hash' ids' s h' (omega arith) ∙ sym (past_empty size heads link hash ids s h past)
+pub past_same : {size size' : ℕ × ℕ} {heads heads' link link' hash hash' ids ids' : List ℕ} (s : ℕ) → Holds size heads link hash ids → Holds size' heads' link' hash' ids' → size'.0 ≡ size.0 → size.0 ≤ s → get_or heads' s none ≡ get_or heads s none
+past_same s h h' same past = past_empty s h' (omega arith) ∙ sym (past_empty s h past)

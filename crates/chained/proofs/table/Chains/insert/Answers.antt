@@ -1,34 +1,21 @@
 use Rattle.std.proofs.Common.{◌≡◌, ℕ, List, ◌∷◌, map, set, refl, ap, ◌∙◌, arith}
 use lib.ListN.{length-map}
-use Rattle.std.proofs.lemmas.List.{get_or_default}
-use Rattle.recency.specs.Numbers.{none, count}
+use Rattle.recency.specs.Numbers.{count}
 use Rattle.chained.specs.Growth.{slot}
 use Rattle.chained.specs.Chains.{size, Holds}
-use Rattle.chained.proofs.Sound.{sound_of, least_of, home_of, holds_as, past_same}
+use Rattle.chained.proofs.Sound.{sound_of, least_of, home_of, head_of, holds_as, past_same}
 use Rattle.chained.proofs.Meanings.{one_row_more}
-use Rattle.chained.proofs.Changes.{inserted, home_below}
+use Rattle.chained.proofs.Changes.{inserted}
 use Rattle.chained.proofs.table.Chains.insert.Goals as goal
 
 pub slot_of-home-requires : goal.slot_of-home-requires
-slot_of-home-requires g c =
-    let link = map g.R.Chained.link_of c.args.rows.now in
-    let hash = map g.R.Chained.hash_of c.args.rows.now in
-    let s = size c.args.self.now in
-    least_of s c.args.heads.now link hash (sound_of s c.args.heads.now link hash c.requires.outside)
+slot_of-home-requires g c = least_of (sound_of c.requires.outside)
 
 pub bounds-heads-home : goal.bounds-heads-home
-bounds-heads-home g c =
-    let link = map g.R.Chained.link_of c.args.rows.now in
-    let hash = map g.R.Chained.hash_of c.args.rows.now in
-    let s = size c.args.self.now in
-    home_of s c.args.heads.now link hash c.slot_of-home.result _ (sound_of s c.args.heads.now link hash c.requires.outside) c.slot_of-home.ensures
+bounds-heads-home g c = home_of c.hash_of.result (sound_of c.requires.outside) c.slot_of-home.ensures
 
 pub bounds-heads-home-2 : goal.bounds-heads-home-2
-bounds-heads-home-2 g c =
-    let link = map g.R.Chained.link_of c.args.rows.now in
-    let hash = map g.R.Chained.hash_of c.args.rows.now in
-    let s = size c.args.self.now in
-    home_of s c.args.heads.now link hash c.slot_of-home.result _ (sound_of s c.args.heads.now link hash c.requires.outside) c.slot_of-home.ensures
+bounds-heads-home-2 g c = home_of c.hash_of.result (sound_of c.requires.outside) c.slot_of-home.ensures
 
 pub returns : goal.returns
 returns g c =
@@ -45,13 +32,13 @@ returns g c =
     let held : (ids : List ℕ) → Holds s heads link hash ids → count i ids ≡ 0 → Holds s (set heads t i) link' hash' (i ∷ ids) =
     λ ids h out.
     let te = c.slot_of-home.ensures ∙ ap (λ x. slot s x) c.hash_of.ensures in
-    let old = get_or_default heads t 0 none (home_below s heads link hash ids i t h te) in
+    let old = head_of c.hash_of.result (sound_of c.requires.outside) c.slot_of-home.ensures in
     holds_as s (i ∷ ids) refl (c.aim.ensures.links ∙ ap (λ v. set link i v) old) c.aim.ensures.hashes
-    (inserted s heads link hash ids i t h te (omega (arith, c.requires.within, length-map rows g.R.Chained.link_of)) out) in
+    (inserted i h te (omega (arith, c.requires.within, length-map rows g.R.Chained.link_of)) out) in
     record {
       held = held;
       rest = c.aim.ensures.rest;
       others = c.aim.ensures.others;
-      past = λ ids h out x past. past_same s s heads (set heads t i) link link' hash hash' ids (i ∷ ids) x h (held ids h out) refl past;
+      past = λ ids h out x past. past_same x h (held ids h out) refl past;
       keys = λ key_of ids blind. one_row_more g.R.Chained.bare key_of blind new rows c.aim.ensures.rest ids i;
     }

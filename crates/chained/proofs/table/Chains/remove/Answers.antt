@@ -1,118 +1,69 @@
-use Rattle.std.proofs.Common.{◌≡◌, ℕ, List, map, get_or, set, sym, refl, ap, ◌∙◌, subst, arith}
+use Rattle.std.proofs.Common.{◌≡◌, ℕ, List, map, get_or, set, refl, ap, ◌∙◌, arith}
 use mathlib.Core.Logic.{∥∥₁_map}
 use lib.ListN.{length-map}
-use Rattle.std.proofs.lemmas.List.{get_or_default}
-use Rattle.recency.specs.Numbers.{none, count, without}
+use Rattle.recency.specs.Numbers.{count, without}
 use Rattle.chained.specs.Growth.{slot}
-use Rattle.chained.specs.Chains.{Chain, Holds, size}
+use Rattle.chained.specs.Chains.{Holds, size}
 use Rattle.chained.proofs.Changes.{first_out, later_out, home_chain, home_slot}
 use Rattle.chained.proofs.Sound.{sound_of, least_of, home_of, few_of, holds_as, past_same}
 use Rattle.chained.proofs.table.Chains.remove.Goals as goal
 
 pub slot_of-home-requires : goal.slot_of-home-requires
-slot_of-home-requires g c =
-    let rows = c.args.rows.now in
-    let heads = c.args.heads.now in
-    let i = c.args.i in
-    let link = map g.R.Chained.link_of rows in
-    let hash = map g.R.Chained.hash_of rows in
-    let s = size c.args.self.now in
-    let sound = sound_of s heads link hash c.requires.inside in
-    least_of s heads link hash sound
+slot_of-home-requires g c = least_of (sound_of c.requires.inside)
 
 pub bounds-heads-home : goal.bounds-heads-home
-bounds-heads-home g c =
-    let rows = c.args.rows.now in
-    let heads = c.args.heads.now in
-    let i = c.args.i in
-    let link = map g.R.Chained.link_of rows in
-    let hash = map g.R.Chained.hash_of rows in
-    let s = size c.args.self.now in
-    let sound = sound_of s heads link hash c.requires.inside in
-    home_of s heads link hash c.slot_of-home.result c.hash_of.result sound c.slot_of-home.ensures
+bounds-heads-home g c = home_of c.hash_of.result (sound_of c.requires.inside) c.slot_of-home.ensures
 
 pub bounds-heads-home-then-first-i : goal.bounds-heads-home-then-first-i
-bounds-heads-home-then-first-i g c =
-    let rows = c.args.rows.now in
-    let heads = c.args.heads.now in
-    let i = c.args.i in
-    let link = map g.R.Chained.link_of rows in
-    let hash = map g.R.Chained.hash_of rows in
-    let s = size c.args.self.now in
-    let sound = sound_of s heads link hash c.requires.inside in
-    home_of s heads link hash c.slot_of-home.result c.hash_of.result sound c.slot_of-home.ensures
+bounds-heads-home-then-first-i g c = home_of c.hash_of.result (sound_of c.requires.inside) c.slot_of-home.ensures
 
 pub ahead_of-ahead-requires : goal.ahead_of-ahead-requires
 ahead_of-ahead-requires g c =
-    let rows = c.args.rows.now in
-    let heads = c.args.heads.now in
-    let i = c.args.i in
-    let link = map g.R.Chained.link_of rows in
-    let hash = map g.R.Chained.hash_of rows in
-    let s = size c.args.self.now in
-    let sound = sound_of s heads link hash c.requires.inside in
-    let t = c.slot_of-home.result in
-    let te = c.slot_of-home.ensures ∙ ap (λ x. slot s x) c.hash_of.ensures in
-    let below = home_of s heads link hash t c.hash_of.result sound c.slot_of-home.ensures in
-    let old = get_or_default heads t 0 none below in
+    let te = c.slot_of-home.ensures ∙ ap (λ x. slot (size c.args.self.now) x) c.hash_of.ensures in
     record {
-      few = omega (arith, few_of s heads link hash sound, length-map rows g.R.Chained.link_of);
+      few = omega (arith, few_of (sound_of c.requires.inside), length-map c.args.rows.now g.R.Chained.link_of);
       later = c.if-first-i.false;
-      inside = ∥∥₁_map c.requires.inside (λ x.
-          let h = home_chain s heads link hash x.0 i t x.1 te x.2 in
-          (h.0, subst (λ f. Chain link f h.0) (sym old) h.1, h.2, h.3));
+      inside = ∥∥₁_map c.requires.inside (λ x. home_chain c.args.i x.1 te x.2);
     }
 
 pub returns-then-first-i : goal.returns-then-first-i
 returns-then-first-i g c =
-    let rows = c.args.rows.now in
     let heads = c.args.heads.now in
     let i = c.args.i in
-    let link = map g.R.Chained.link_of rows in
-    let hash = map g.R.Chained.hash_of rows in
+    let link = map g.R.Chained.link_of c.args.rows.now in
+    let hash = map g.R.Chained.hash_of c.args.rows.now in
     let s = size c.args.self.now in
-    let sound = sound_of s heads link hash c.requires.inside in
     let t = c.slot_of-home.result in
     let te = c.slot_of-home.ensures ∙ ap (λ x. slot s x) c.hash_of.ensures in
-    let below = home_of s heads link hash t c.hash_of.result sound c.slot_of-home.ensures in
-    let old = get_or_default heads t 0 none below in
-    let heads' = set heads t c.link_of-behind.result in
-    let held : (ids : List ℕ) → Holds s heads link hash ids → count i ids ≡ 1 → Holds s heads' link hash (without i ids) =
-    λ ids h here.
-    holds_as s (without i ids) (ap (λ v. set heads t v) c.link_of-behind.ensures) refl refl
-    (first_out s heads link hash ids i t h te here (sym old ∙ c.if-first-i.true)) in
+    let held : (ids : List ℕ) → Holds s heads link hash ids → count i ids ≡ 1 → Holds s (set heads t c.link_of-behind.result) link hash (without i ids) =
+    λ ids h here. holds_as s (without i ids) (ap (λ v. set heads t v) c.link_of-behind.ensures) refl refl (first_out i h te here c.if-first-i.true) in
     record {
       held = held;
       rest = refl;
       outside = λ ids h here k d out. refl;
-      past = λ ids h here x past. past_same s s heads heads' link link hash hash ids (without i ids) x h (held ids h here) refl past;
+      past = λ ids h here x past. past_same x h (held ids h here) refl past;
     }
 
 pub returns-else-first-i : goal.returns-else-first-i
 returns-else-first-i g c =
-    let rows = c.args.rows.now in
-    let heads = c.args.heads.now in
     let i = c.args.i in
-    let link = map g.R.Chained.link_of rows in
-    let hash = map g.R.Chained.hash_of rows in
+    let link = map g.R.Chained.link_of c.args.rows.now in
+    let hash = map g.R.Chained.hash_of c.args.rows.now in
     let s = size c.args.self.now in
-    let sound = sound_of s heads link hash c.requires.inside in
     let t = c.slot_of-home.result in
     let te = c.slot_of-home.ensures ∙ ap (λ x. slot s x) c.hash_of.ensures in
-    let below = home_of s heads link hash t c.hash_of.result sound c.slot_of-home.ensures in
-    let old = get_or_default heads t 0 none below in
     let p = c.ahead_of-ahead.result in
     let told = c.ahead_of-ahead.ensures in
     let aimed = c.aim.ensures in
-    let among : (ids : List ℕ) → Holds s heads link hash ids → count i ids ≡ 1 → (slot s (get_or hash p 0) ≡ t) × (count p ids ≡ 1) =
+    let among : (ids : List ℕ) → Holds s c.args.heads.now link hash ids → count i ids ≡ 1 → (slot s (get_or hash p 0) ≡ t) × (count p ids ≡ 1) =
     λ ids h here.
-    let k = home_chain s heads link hash ids i t h te here in
-    home_slot s heads link hash ids i t h te here p (told.among k.0 (subst (λ f. Chain link f k.0) (sym old) k.1) k.2 k.3) in
+    let k = home_chain i h te here in
+    home_slot i h te here p (told.among k.0 k.1 k.2 k.3) in
     record {
       held = λ ids h here.
           let q = among ids h here in
           holds_as s (without i ids) refl (aimed.links ∙ ap (λ v. set link p v) c.link_of-behind.ensures) aimed.hashes
-          (later_out s heads link hash ids i t h te here p q.0 q.1 told.names);
+          (later_out i h te here p q.0 q.1 told.names);
       rest = aimed.rest;
       outside = λ ids h here k d out. aimed.others k d (λ e. omega (arith, (among ids h here).1, ap (λ y. count y ids) e));
       past = λ ids h here x past. refl;
