@@ -69,7 +69,8 @@ fn write_row(
     }
 }
 
-// Adds the kind that a line tells of, or leaves the line out, and writes its row.
+// Adds the kind that a line tells of, or leaves the line out, and writes its row. The output and the tally are lent side by side:
+// one is of the run, the other of the account, and nothing else takes both.
 fn take_line(
     out: &mut BufWriter<Stdout>,
     tally: &mut Tally,

@@ -16,6 +16,9 @@ mod telling;
 use chained::Chains;
 use slabs::Slab;
 
+// `Holds` and `Granted` are of one call's row or grant, as this slab has it now, and `ShowsRecords` ties page memory that is lent:
+// they stand at the calls, since no type holds both sides.
+
 /// Chunks and their rows, and the hash table by which a row is found. A record is known by the number of its row, since rows
 /// lie in memory of a fixed size that the owner hands over.
 #[derive(Drop)]

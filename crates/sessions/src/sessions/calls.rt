@@ -23,6 +23,8 @@ const ROWS: usize = 64;
 /// The largest caller number.
 const LAST_CALLER: u32 = 4_194_303;
 
+// A caller and a second come together here alone: one names a session, the other is the clock's. `Shows` ties the reference table,
+// which is no value of the program, and so stands at the calls.
 impl Sessions {
     /// No session, over 64 rows and 64 slots; what these held before does not matter.
     pub fn open(mut rows: Vec<SessionRow>, mut slots: Vec<u32>) -> Option<Sessions>
