@@ -7,10 +7,12 @@ pub struct Found {
     pub(crate) row: u32,
 }
 
-/// What a reply shows of a record.
+/// What is read of a record: its key and data are parts of page memory.
 #[derive(Clone, Copy)]
 pub struct View<'a> {
+    pub key: &'a [u8],
     pub flags: u32,
+    pub expiry: Option<u64>,
     pub cas: u64,
     pub data: &'a [u8],
 }

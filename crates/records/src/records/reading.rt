@@ -27,6 +27,14 @@ impl Records {
         self.slab.tag(i)
     }
 
+    /// The key of a record, where it lies in page memory.
+    pub fn key<'a>(&self, memory: &'a [u8], i: u32) -> &'a [u8]
+        requires { Holds self.now.slab i }
+        ensures { result.now ≡ (record_at (layout self.now.slab) (rows_of self.now.slab) memory.now i).key }
+    {
+        self.slab.key_if_held(memory, i).unwrap()
+    }
+
     /// The data of a record, where they lie in page memory.
     pub fn data<'a>(&self, memory: &'a [u8], i: u32) -> &'a [u8]
         requires held { Holds self.now.slab i }

@@ -27,18 +27,22 @@ impl RecordStore {
         Some(Found { row })
     }
 
-    /// What a reply shows of a record that was found.
+    /// What is read of a record that was found.
     pub fn view<'a>(&self, memory: &'a [u8], found: Found) -> View<'a>
         requires held { Held self.now found }
         requires memory { 4096 * pages_of self.now ≤ length memory.now }
+        ensures key { result.key.now ≡ (found_record self.now memory.now found).key }
         ensures flags { result.flags ≡ (found_record self.now memory.now found).flags }
+        ensures expiry { result.expiry ≡ (found_record self.now memory.now found).expiry }
         ensures cas { result.cas ≡ (found_record self.now memory.now found).cas }
         ensures data { result.«data».now ≡ (found_record self.now memory.now found).block }
         ensures short { length (found_record self.now memory.now found).key + length result.«data».now ≤ 4096 }
     {
         let tag = self.records.tag(found.row);
         View {
+            key: self.records.key(memory, found.row),
             flags: tag.flags,
+            expiry: tag.expiry,
             cas: tag.cas,
             data: self.records.data(memory, found.row),
         }

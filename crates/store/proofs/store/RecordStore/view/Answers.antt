@@ -11,7 +11,9 @@ returns c =
     let i = c.args.found.row in
     let short = c.data.ensures.short in
     record {
+      key = c.key.ensures;
       flags = ap (λ tag. tag.flags) c.tag-tag.ensures;
+      expiry = ap (λ tag. tag.expiry) c.tag-tag.ensures;
       cas = ap (λ tag. tag.cas) c.tag-tag.ensures;
       «data» = c.data.ensures.«data»;
       short = omega (arith, length-take (get_or (rows_of slab) i blank).key_len (drop (start (layout slab) i) c.args.memory.now));
