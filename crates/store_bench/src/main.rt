@@ -62,16 +62,13 @@ fn measure(rt: &HostRuntime, bench: &mut Bench, times: u32, timed: bool) -> anyh
         "{pages} pages: {held} held, {kept} stored, {evicted} evicted, {hits} found, {misses} of others"
     )?;
     if timed {
+        let turns = times.max(1);
         println!(rt;
             "  ns each: store {}, lookup {}, miss {}",
-            each(stored.as_nanos(), times),
-            each(hit.as_nanos(), times),
-            each(missed.as_nanos(), times)
+            (stored / turns).as_nanos(),
+            (hit / turns).as_nanos(),
+            (missed / turns).as_nanos()
         )?;
     }
     Ok(())
-}
-
-fn each(nanos: u128, times: u32) -> u128 {
-    nanos / u128::from(times.max(1))
 }
