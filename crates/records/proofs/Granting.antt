@@ -14,7 +14,7 @@ use Rattle.slabs.specs.declared.slab.Slab.{Slab}
 use Rattle.slabs.specs.Rows.{rest, rests}
 use Rattle.slabs.specs.Lists.{held_of, granted_of, free_of, shift}
 use Rattle.slabs.specs.Layouts.{class_at}
-use Rattle.slabs.specs.Slabs.{Taken, Lists, Shifted, Holds, rows_of, homes_of, layout}
+use Rattle.slabs.specs.Slabs.{Taken, Lists, Sound, Shifted, Holds, rows_of, homes_of, layout}
 use Rattle.slabs.proofs.Ends.{none_in, beyond, names, foremost_in}
 use Rattle.slabs.proofs.Families.{absent}
 use Rattle.slabs.proofs.Pages.{counts_whole, classes_few}
@@ -108,7 +108,7 @@ module _ (setup : Setup) (s : Slab) (memory : List ℕ) (ks : List Class) (sh : 
       ∙ ap (λ c. get_or (layout s).shares class 0 * c) (sym (sh.cut.chunks class num))
 
 -- a class whose chunks are all free or hold a record has room where a chunk is free
-module _ (setup : Setup) (s : Slab) (memory : List ℕ) (ks : List Class) (sh : ShowsRecords setup s memory ks) (none : NoGrant s) (class : ℕ) (num : Numbered setup class) where
+module _ (setup : Setup) (s : Slab) (sound : ∥ Sound s ∥₁) (memory : List ℕ) (ks : List Class) (sh : ShowsRecords setup s memory ks) (none : NoGrant s) (class : ℕ) (num : Numbered setup class) where
   none_granted : length (sh.lists (granted_of class)) ≡ 0
   none_granted =
       ap length (none_in (sh.lists (granted_of class)) (λ k. let h = absent s.classes.all (rows_of s) sh.lists sh.listed k (granted_of class) (omega arith) (none k class) in omega arith))
@@ -118,16 +118,16 @@ module _ (setup : Setup) (s : Slab) (memory : List ℕ) (ks : List Class) (sh : 
   whole =
       ⊎_elim
       (λ (few : class < 33).
-      let all = counts_whole s class few in
+      let all = counts_whole s sound class few in
       let f = sh.listed.counted class Free few in
       let g = sh.listed.counted class Granted few in
       let h = sh.listed.counted class Held few in
       let n = none_granted in
       omega arith)
       (λ (past : 33 ≤ class).
-      let f = ap length (beyond s sh.lists sh.listed Free class past) in
-      let h = ap length (beyond s sh.lists sh.listed Held class past) in
-      let none = ap (λ n. get_or (layout s).shares class 0 * n) (classes_few s class past) in
+      let f = ap length (beyond s sound sh.lists sh.listed Free class past) in
+      let h = ap length (beyond s sound sh.lists sh.listed Held class past) in
+      let none = ap (λ n. get_or (layout s).shares class 0 * n) (classes_few s sound class past) in
       omega arith)
       (cases_lt class 33)
 
@@ -150,7 +150,7 @@ module _ (t : Records) (new : Slab) (class : ℕ) (rests_are : rests (rows_of ne
 
   module _ (grant : Grant) (found : Found (Some grant)) (taken : Taken t.slab new class grant) where
     was_free : get_or (homes_of t.slab) grant.row 0 ≡ free_of class
-    was_free = names t.slab grant.row (free_of class) (omega arith) (λ ls f. foremost_in (ls (free_of class)) grant.row (found ls f))
+    was_free = names t.slab t.sound grant.row (free_of class) (omega arith) (λ ls f. foremost_in (ls (free_of class)) grant.row (found ls f))
 
     in_range : grant.row < length (homes_of t.slab)
     in_range = within (homes_of t.slab) grant.row (rw was_free (omega arith))
@@ -191,4 +191,4 @@ module _ (t : Records) (new : Slab) (class : ℕ) (rests_are : rests (rows_of ne
   some_mapped (Some grant) = refl
 
   pub take_room : (r : Option Grant) → Found r → (setup : Setup) (memory : List ℕ) (ks : List Class) → ShowsRecords setup t.slab memory ks → NoGrant t.slab → Numbered setup class → is_some r ≡ ltb (length (model.class_at class ks).records) (chunks setup class (model.class_at class ks).pages)
-  take_room r found setup memory ks sh none num = some_mapped r ∙ ap is_some (found sh.lists sh.listed) ∙ room_is setup t.slab memory ks sh none class num
+  take_room r found setup memory ks sh none num = some_mapped r ∙ ap is_some (found sh.lists sh.listed) ∙ room_is setup t.slab t.sound memory ks sh none class num

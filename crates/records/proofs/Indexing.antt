@@ -14,9 +14,9 @@ use Rattle.records.specs.declared.records.Records.{Records}
 use Rattle.records.specs.Indexes.{Indexes}
 use Rattle.records.specs.Standing.{Standing}
 
--- the records are in order, by their types
+-- the records are in order, by their type
 pub standing : (t : Records) → ∥ Standing t ∥₁
-standing t = ∥∥₁_elim t.slab.ok ∥∥₁_prop (λ sound. ∥∥₁_map t.indexed (λ indexed. record { sound = sound; indexed = indexed }))
+standing t = ∥∥₁_elim t.sound ∥∥₁_prop (λ sound. ∥∥₁_map t.indexed (λ indexed. record { sound = sound; indexed = indexed }))
 
 -- the rows hold the same records, with the same hashes, in the same chains
 abbrev pub IndexesAs : Records → Slab → Type 0

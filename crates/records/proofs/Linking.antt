@@ -55,7 +55,7 @@ module _ (t : Records) (i class : ℕ) (granted : get_or (homes_of t.slab) i 0 �
   row_there = rw (length-map (rows_of s) (λ row. row.home)) at in_range
 
   was_of : class_at (layout s) i ≡ class
-  was_of = class_is s i class Granted granted
+  was_of = class_is s t.sound i class Granted granted
 
   -- the table does not see the hash of a row that it does not hold
   pub outside : (ix : Indexed t) → rows.count i ix.ids ≡ 0
@@ -148,13 +148,13 @@ module _ (t : Records) (i class : ℕ) (granted : get_or (homes_of t.slab) i 0 �
       on_holds : (c n : ℕ) → On n (sh.lists (held_of c)) → Holds s n
       on_holds c n o =
           let home = names_on s sh.lists sh.listed n (held_of c) (omega arith) o in
-          home ∙ ap held_of (sym (class_is s n c Held home))
+          home ∙ ap held_of (sym (class_is s t.sound n c Held home))
 
       -- the granted chunk is one that no record of the class takes
       room : length (model.class_at class ks).records < chunks setup class (model.class_at class ks).pages
       room =
-          let few : class < 33 = subst (λ c. c < 33) was_of (owners_few s _) in
-          let all = counts_whole s class few in
+          let few : class < 33 = subst (λ c. c < 33) was_of (owners_few s t.sound _) in
+          let all = counts_whole s t.sound class few in
           let f = sh.listed.counted class Free few in
           let g = sh.listed.counted class Granted few in
           let h = sh.listed.counted class Held few in

@@ -13,7 +13,7 @@ use Rattle.slabs.specs.declared.slab.Slab.{Slab}
 use Rattle.slabs.specs.Lists.{held_of}
 use Rattle.slabs.specs.Layouts.{class_at}
 use Rattle.slabs.specs.Openings.{Opened, pages_of}
-use Rattle.slabs.specs.Slabs.{Lists, Holds, rows_of, homes_of, layout}
+use Rattle.slabs.specs.Slabs.{Lists, Sound, Holds, rows_of, homes_of, layout}
 use Rattle.model.specs.Setup.{Setup}
 use Rattle.model.specs.Store.{bare}
 use Rattle.model.specs.Sound.{Numbered}
@@ -42,14 +42,14 @@ module _ (s : Slab) (empty : Lists s (λ _. [])) where
   pub none_exact : (i : ℕ) → count i [] ≡ cond (eqb (get_or (homes_of s) i 0) (held_of (class_at (layout s) i))) 1 0
   none_exact i = sym (cond-false _ 1 0 (ne_eqb _ _ (none_held i)))
 
-module _ (the_plan : Plan) (rows : ℕ) (s : Slab) (empty : Lists s (λ _. [])) (opened : Opened (plan_sizes the_plan) rows s) where
+module _ (the_plan : Plan) (rows : ℕ) (s : Slab) (t : ∥ Sound s ∥₁) (empty : Lists s (λ _. [])) (opened : Opened (plan_sizes the_plan) rows s) where
   -- so few rows that each has a number
   pub rows_few : length (rows_of s) ≤ none
   rows_few = let n = ap length opened.blank_rows ∙ length-replicate (85 * pages_of rows) _ in omega arith
 
   no_share : (class : ℕ) → 0 < class → get_or (layout s).shares class 0 ≡ 0
   no_share class pos =
-      let low : get_or (layout s).shares class 0 ≤ 0 = ∥∥₁_elim s.ok le_prop (λ z.
+      let low : get_or (layout s).shares class 0 ≤ 0 = ∥∥₁_elim t le_prop (λ z.
       let e = z.placed.shared class pos ∙ ap (λ g. count class (take g s.owners)) opened.none_given in omega arith) in
       omega arith
 

@@ -41,12 +41,12 @@ module _ (t : Records) (new : Slab) (class : ℕ) (given : PageGiven t.slab new 
   n = get_or (layout s).chunks class 0
 
   few : class < 33
-  few = ⊎_elim (λ lt. lt) (λ past. absurd (omega (arith, classes_few s class past))) (cases_lt class 33)
+  few = ⊎_elim (λ lt. lt) (λ past. absurd (omega (arith, classes_few s t.sound class past))) (cases_lt class 33)
 
   -- a row that is in a list is of another page
   other_page : (k : ℕ) → 0 < get_or (homes_of s) k 0 → k / 85 ≡ s.given → ⊥
   other_page k listed at =
-      ∥∥₁_elim s.ok ⊥_prop (λ z.
+      ∥∥₁_elim t.sound ⊥_prop (λ z.
       let chunk = home_chunk (layout s) (homes_of s) z.placed k listed in
       let none : class_at (layout s) k ≡ 0 = ap (λ p. get_or s.owners p 0) at ∙ z.placed.unowned s.given (omega arith) in
       let empty = ap (λ c. get_or (layout s).chunks c 0) none ∙ z.placed.none in
@@ -54,7 +54,7 @@ module _ (t : Records) (new : Slab) (class : ℕ) (given : PageGiven t.slab new 
 
   home_other : (k : ℕ) → (k / 85 ≡ s.given → ⊥) → get_or (homes_of new) k 0 ≡ get_or (homes_of s) k 0
   home_other k ne =
-      let small = stock_few s class few some free in
+      let small = stock_few s t.sound class few some free in
       ap (λ h. get_or h k 0) given.homes
       ∙ ⊎_elim (λ below. filled_below first n (free_of class) (homes_of s) k below) (λ above. filled_above first n (free_of class) (homes_of s) k (⊎_elim (λ (inside : k < first + 85). absurd (ne (omega arith))) (λ past. omega arith) (cases_lt k (first + 85)))) (cases_lt k first)
 
@@ -69,7 +69,7 @@ module _ (t : Records) (new : Slab) (class : ℕ) (given : PageGiven t.slab new 
       absurd
       (⊎_elim
       (λ (inside : k < first + n).
-      let there = ap (λ x. get_or x k 0) given.homes ∙ filled_there first n (free_of class) (homes_of s) k (omega (arith, stock_within s class few some free, length-map (rows_of s) (λ row. row.home))) (omega arith) inside in
+      let there = ap (λ x. get_or x k 0) given.homes ∙ filled_there first n (free_of class) (homes_of s) k (omega (arith, stock_within s t.sound class few some free, length-map (rows_of s) (λ row. row.home))) (omega arith) inside in
       ne (sym is ∙ there))
       (λ (above : first + n ≤ k).
       let there = ap (λ x. get_or x k 0) given.homes ∙ filled_above first n (free_of class) (homes_of s) k above in
@@ -113,7 +113,7 @@ module _ (t : Records) (new : Slab) (class : ℕ) (given : PageGiven t.slab new 
         ∙ map_same _ _ (sh.lists (held_of d)) (λ k o. read_same k (other_page k (rw (names_on s sh.lists sh.listed k (held_of d) (omega arith) o) (omega arith))))
 
     shares_long : class < length (layout s).shares
-    shares_long = ⊎_elim (λ lt. lt) (λ past. absurd (∥∥₁_elim s.ok ⊥_prop (λ z. let h = few in omega (arith, z.placed.classes.2)))) (cases_lt class (length (layout s).shares))
+    shares_long = ⊎_elim (λ lt. lt) (λ past. absurd (∥∥₁_elim t.sound ⊥_prop (λ z. let h = few in omega (arith, z.placed.classes.2)))) (cases_lt class (length (layout s).shares))
 
     shown_page : ShowsClasses setup (layout new) (rows_of new) memory lists' (model.with_page class ks)
     shown_page d low high =

@@ -75,7 +75,7 @@ module _ (t : Records) (memory : List ℕ) (key : List ℕ) where
         (λ class i num on same.
         ∥∥₁_elim t.indexed ⊥_prop (λ ix.
         let home = names_on t.slab sh.lists sh.listed i (held_of class) (omega arith) on in
-        let h : Holds t.slab i = home ∙ ap held_of (sym (class_is t.slab i class Held home)) in
+        let h : Holds t.slab i = home ∙ ap held_of (sym (class_is t.slab t.sound i class Held home)) in
         s ix.ids ix.kept i blank (counted_holds i ix.ids (ix.exact i) h) (row_hash i h) same))
     searched (Some i) s = by (bytes_eq key (record_at (layout t.slab) rows memory i).key) refl
       where

@@ -1,4 +1,4 @@
--- When the rows, the lists and the table of the records are in order, whatever page memory holds: always, since their types say so.
+-- When the rows, the lists and the table of the records are in order, whatever page memory holds: always, since the type says so.
 use Rattle.std.specs.Prelude.{vec_items}
 use Rattle.slabs.specs.Slabs.{Sound, rows_of, layout}
 use Rattle.records.specs.declared.records.Records.{Records}

@@ -4,7 +4,7 @@ ghost use Rattle.std.specs.Prelude.{◌≡◌};
 ghost use Rattle.chained.specs.Fnv.{fnv};
 ghost use Rattle.slabs.specs.Layouts.{start};
 ghost use Rattle.slabs.specs.Records.{bytes_at};
-ghost use Rattle.slabs.specs.Slabs.{layout};
+ghost use Rattle.slabs.specs.Slabs.{layout, Sound};
 
 use chained::{Keyed, fnv1a};
 use slabs::{Row, Slab};
@@ -14,6 +14,7 @@ use slabs::{Row, Slab};
 pub struct Pages<'s, 'm> {
     pub slab: &'s Slab,
     pub memory: &'m [u8],
+    ghost sound: { ∥ Sound slab.now ∥₁ },
 }
 
 /// The bytes of a key with their hash, which is so computed once.

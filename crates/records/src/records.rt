@@ -1,7 +1,7 @@
 //! The records with the memory that holds them, but for page memory, which is lent to each call that reads or writes bytes.
 
 ghost use Rattle.std.specs.Prelude.{vec_items};
-ghost use Rattle.slabs.specs.Slabs.{rows_of, layout};
+ghost use Rattle.slabs.specs.Slabs.{rows_of, layout, Sound};
 ghost use Rattle.records.specs.Indexes.{Indexes};
 
 mod finding;
@@ -26,5 +26,6 @@ pub struct Records {
     slab: Slab,
     table: Chains,
     heads: Vec<u32>,
+    ghost sound: { ∥ Sound slab ∥₁ },
     ghost indexed: { ∥ Indexes (rows_of slab) (layout slab) table (vec_items heads) ∥₁ },
 }

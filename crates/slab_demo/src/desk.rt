@@ -1,6 +1,7 @@
 //! Records put into a slab, with a simple copy of each kept beside it.
 
 ghost use Rattle.std.specs.Prelude.{◌*◌, ◌≤◌, vec_len};
+ghost use Rattle.slabs.specs.Slabs.{Sound};
 
 use plan::Plan;
 use slabs::{Row, Slab, Tag, Tally};
@@ -39,6 +40,7 @@ pub struct Desk {
     slab: Slab,
     memory: Vec<u8>,
     copies: Vec<Kept>,
+    ghost sound: { ∥ Sound slab ∥₁ },
     ghost wide: { 4096 * slab.pages ≤ vec_len memory },
 }
 

@@ -17,7 +17,7 @@ use Rattle.slabs.specs.Rows.{homes, rests}
 use Rattle.slabs.specs.Classes.{frame, no_class, with_share, count_at}
 use Rattle.slabs.specs.Lists.{Family, free_of, stocked, filled}
 use Rattle.slabs.specs.Layouts.{Layout, Placed, Chunk, class_at, size_at, start, with_page, Fitting, Full}
-use Rattle.slabs.specs.Slabs.{rows_of, homes_of, spans_of, cut, layout, InOrder}
+use Rattle.slabs.specs.Slabs.{rows_of, homes_of, spans_of, cut, layout, Sound, InOrder}
 use Rattle.slabs.proofs.Cuts.{cut_same}
 use Rattle.slabs.proofs.Families.{family_share}
 use Rattle.slabs.proofs.Placing.{shares_few}
@@ -193,10 +193,10 @@ order_page classes classes' rows rows' l class few some free lists moved same z 
       full = λ g lt. full_page l (85 * l.given) class z.lists (let c = p.classes.2 in omega arith) g (z.full g lt);
     }
 
--- what a slab tells of its next page
-module _ (s : Slab) where
+-- what a sound slab tells of its next page
+module _ (s : Slab) (t : ∥ Sound s ∥₁) where
   pub classes_few : (class : ℕ) → 33 ≤ class → get_or (layout s).chunks class 0 ≡ 0
-  classes_few class far = get_or_past (layout s).chunks class 0 (∥∥₁_elim s.ok le_prop (λ z. let c = z.placed.classes.1 in omega arith))
+  classes_few class far = get_or_past (layout s).chunks class 0 (∥∥₁_elim t le_prop (λ z. let c = z.placed.classes.1 in omega arith))
 
   -- a class with chunks is a class
   pub class_of_chunks : (class : ℕ) → 0 < get_or (layout s).chunks class 0 → class < 33
@@ -206,27 +206,30 @@ module _ (s : Slab) where
   pub counts_whole : (class : ℕ) → class < 33 → count_at s.classes.all class Free + count_at s.classes.all class Granted + count_at s.classes.all class Held ≡ get_or (layout s).shares class 0 * get_or (layout s).chunks class 0
   counts_whole class few =
       let up : count_at s.classes.all class Free + count_at s.classes.all class Granted + count_at s.classes.all class Held ≤ get_or (layout s).shares class 0 * get_or (layout s).chunks class 0 =
-      ∥∥₁_elim s.ok le_prop (λ z. let f = z.full class few in let a = z.listed.counted class Free few in let b = z.listed.counted class Granted few in let c = z.listed.counted class Held few in omega arith) in
+      ∥∥₁_elim t le_prop (λ z. let f = z.full class few in let a = z.listed.counted class Free few in let b = z.listed.counted class Granted few in let c = z.listed.counted class Held few in omega arith) in
       let down : get_or (layout s).shares class 0 * get_or (layout s).chunks class 0 ≤ count_at s.classes.all class Free + count_at s.classes.all class Granted + count_at s.classes.all class Held =
-      ∥∥₁_elim s.ok le_prop (λ z. let f = z.full class few in let a = z.listed.counted class Free few in let b = z.listed.counted class Granted few in let c = z.listed.counted class Held few in omega arith) in
+      ∥∥₁_elim t le_prop (λ z. let f = z.full class few in let a = z.listed.counted class Free few in let b = z.listed.counted class Granted few in let c = z.listed.counted class Held few in omega arith) in
       omega arith
 
+  pub given_few : s.given ≤ s.pages
+  given_few = ∥∥₁_elim t le_prop (λ z. z.placed.in_order)
+
   pub pages_few : s.pages ≤ 256
-  pages_few = ∥∥₁_elim s.ok le_prop (λ z. z.placed.few)
+  pages_few = ∥∥₁_elim t le_prop (λ z. z.placed.few)
 
   module _ (class : ℕ) (few : class < 33) (some : 0 < get_or (layout s).chunks class 0) (free : s.given < s.pages) where
     pub stock_within : 85 * s.given + get_or (layout s).chunks class 0 ≤ length (rows_of s)
-    stock_within = ∥∥₁_elim s.ok le_prop (λ z. let r = z.placed.rows in let m = z.placed.most class in let n = length-map (rows_of s) (λ row. row.home) in omega arith)
+    stock_within = ∥∥₁_elim t le_prop (λ z. let r = z.placed.rows in let m = z.placed.most class in let n = length-map (rows_of s) (λ row. row.home) in omega arith)
 
     pub stock_few : get_or (layout s).chunks class 0 ≤ 85
-    stock_few = ∥∥₁_elim s.ok le_prop (λ z. z.placed.most class)
+    stock_few = ∥∥₁_elim t le_prop (λ z. z.placed.most class)
 
     pub stock_room : count_at s.classes.all class Free ≤ 21760
-    stock_room = ∥∥₁_elim s.ok le_prop (λ z. let n = lists_few s z Free class few in let c = z.listed.counted class Free few in omega arith)
+    stock_room = ∥∥₁_elim t le_prop (λ z. let n = lists_few s z Free class few in let c = z.listed.counted class Free few in omega arith)
 
     pub share_few : get_or (layout s).shares class 0 ≤ 256
     share_few =
-        ∥∥₁_elim s.ok le_prop (λ z.
+        ∥∥₁_elim t le_prop (λ z.
         shares_few (layout s) (homes_of s) z.placed class
         (⊎_elim (λ (pos : 0 < class). pos) (λ zero_is. absurd (let e : class ≡ 0 = omega arith in omega (arith, ap (λ k. get_or (layout s).chunks k 0) e, z.placed.none))) (cases_lt 0 class)))
 
@@ -234,7 +237,7 @@ module _ (s : Slab) where
     homeless k lt =
         let m = stock_few in
         let low : get_or (homes_of s) (85 * s.given + k) 0 ≤ 0 =
-        ∥∥₁_elim s.ok le_prop (λ z.
+        ∥∥₁_elim t le_prop (λ z.
         let i = 85 * s.given + k in
         let e : i / 85 ≡ s.given = omega arith in
         let u = z.placed.unlisted i (none_there (layout s) (homes_of s) z.placed class few some free i e) in
@@ -244,7 +247,7 @@ module _ (s : Slab) where
     -- its rows became free chunks, and then the class gained the page
     module _ (mid : List Class) (rows : List Row) (n : ℕ) (all : get_or (layout s).chunks class 0 ≡ n) (frames : map frame mid ≡ map frame s.classes.all) where
       long : class < length mid
-      long = ∥∥₁_elim s.ok le_prop (λ z. let c = z.placed.classes.0 in omega (arith, length-map s.classes.all (λ x. x.size), length-map mid frame, length-map s.classes.all frame, ap length frames))
+      long = ∥∥₁_elim t le_prop (λ z. let c = z.placed.classes.0 in omega (arith, length-map s.classes.all (λ x. x.size), length-map mid frame, length-map s.classes.all frame, ap length frames))
 
       pub share_room : (get_or mid class no_class).pages + 1 < 4294967296
       share_room =

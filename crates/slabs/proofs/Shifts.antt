@@ -60,11 +60,11 @@ stocked_some first zero h ls some = absurd (omega arith)
 stocked_some first (suc n) h ls some = (first + n, ap foremost (into_there (first + n) h (stocked first n h ls)))
 
 -- a row in the list of a class's records holds a record of that class
-pub holds_listed : (s : Slab) (ls : ℕ → List ℕ) → Lists s ls → (class i : ℕ) → 0 < count i (ls (held_of class)) → Holds s i × (class_at (layout s) i ≡ class)
-holds_listed s ls f class i there =
+pub holds_listed : (s : Slab) → ∥ Sound s ∥₁ → (ls : ℕ → List ℕ) → Lists s ls → (class i : ℕ) → 0 < count i (ls (held_of class)) → Holds s i × (class_at (layout s) i ≡ class)
+holds_listed s t ls f class i there =
     let n = f.named (held_of class) i (omega arith) in
     let home : get_or (homes_of s) i 0 ≡ held_of class = grind (arith, nat_tests) in
-    let at = class_is s i class Held home in
+    let at = class_is s t i class Held home in
     (home ∙ ap held_of (sym at), at)
 
 -- and a row that holds a record is in that list

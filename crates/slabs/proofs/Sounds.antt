@@ -1,4 +1,4 @@
--- What a slab tells of its lists, and that all is in order still after a row took another place in them.
+-- What a sound slab tells of its lists, and that all is in order still after a row took another place in them.
 use Rattle.std.proofs.Common.{◌≡◌, ℕ, ◌+◌, ◌*◌, ◌<◌, ◌≤◌, Bool, true, false, cond, eqb, List, ◌∷◌, length, get_or, set, sym, refl, ap, ◌∙◌, subst, arith}
 use native.Mathlib.Bridge.{le_prop}
 use mathlib.Core.Logic.{∥∥₁_elim, ∥∥₁_map}
@@ -32,22 +32,22 @@ lists_few s z Free class few = let f = z.full class few in let n = chunks_few (l
 lists_few s z Granted class few = let f = z.full class few in let n = chunks_few (layout s) (homes_of s) z.placed class in omega arith
 lists_few s z Held class few = let f = z.full class few in let n = chunks_few (layout s) (homes_of s) z.placed class in omega arith
 
-module _ (s : Slab) where
+module _ (s : Slab) (t : ∥ Sound s ∥₁) where
   pub some_lists : ∥ ((ls : ℕ → List ℕ) × Lists s ls) ∥₁
-  some_lists = ∥∥₁_map s.ok (λ z. (z.lists, z.listed))
+  some_lists = ∥∥₁_map t (λ z. (z.lists, z.listed))
 
   -- a row that is in a list of a class
   module _ (i class : ℕ) (stand : Stand) (home : get_or (homes_of s) i 0 ≡ list_of stand class) where
     pub row_within : i < length (rows_of s)
-    row_within = ∥∥₁_elim s.ok le_prop (λ z. let w = home_within (layout s) (homes_of s) z.placed i (omega (arith, list_some stand class)) in omega (arith, length-map (rows_of s) (λ row. row.home)))
+    row_within = ∥∥₁_elim t le_prop (λ z. let w = home_within (layout s) (homes_of s) z.placed i (omega (arith, list_some stand class)) in omega (arith, length-map (rows_of s) (λ row. row.home)))
 
     pub class_few : class < 33
-    class_few = ∥∥₁_elim s.ok le_prop (λ z. home_few (layout s) (homes_of s) z.placed i class stand home)
+    class_few = ∥∥₁_elim t le_prop (λ z. home_few (layout s) (homes_of s) z.placed i class stand home)
 
     -- there is room in every list of its class
     pub room_left : (to : Stand) → count_at s.classes.all class to + 1 < 4294967296
     room_left to =
-        ∥∥₁_elim s.ok le_prop (λ z.
+        ∥∥₁_elim t le_prop (λ z.
         let n = z.listed.counted class to class_few in
         let few = lists_few s z to class class_few in
         omega arith)

@@ -1,5 +1,5 @@
 -- What rows tell of records, after one was described.
-use Rattle.std.proofs.Common.{◌≡◌, ℕ, zero, suc, ◌+◌, ◌*◌, ◌<◌, ◌≤◌, List, [], ◌∷◌, length, get_or, sym, refl, ap, ◌∙◌, ⊎_elim, arith}
+use Rattle.std.proofs.Common.{◌≡◌, ℕ, zero, suc, ◌+◌, ◌*◌, ◌<◌, ◌≤◌, List, [], ◌∷◌, length, get_or, sym, refl, ap, ◌∙◌, subst, ⊎_elim, arith}
 use native.Mathlib.Bridge.{le_prop}
 use mathlib.Core.Logic.{∥∥₁_elim}
 use lib.ListN.{length-map}
@@ -12,9 +12,10 @@ use Rattle.slabs.specs.declared.slab.Slab.{Slab}
 use Rattle.slabs.specs.Rows.{blank, homes, rest, rests}
 use Rattle.slabs.specs.Lists.{held_of}
 use Rattle.slabs.specs.Layouts.{Layout, Fitting, start, size_at}
-use Rattle.slabs.specs.Slabs.{rows_of, homes_of, spans_of, layout, Holds}
+use Rattle.slabs.specs.Slabs.{rows_of, homes_of, spans_of, layout, Lists, Sound, InOrder, Holds}
 use Rattle.slabs.specs.Records.{key_lens, data_lens, Described, Written, bytes_at, chunk_of, key_of, data_of}
 use Rattle.slabs.proofs.Bytes.{bytes_part}
+use Rattle.slabs.proofs.Sounds.{order_same}
 use Rattle.slabs.proofs.Ends.{chunk_inside, page_within, record_fits}
 
 -- the length of a record is that of its key and of its data
@@ -75,6 +76,12 @@ module _ (rows rows' : List Row) (i k d : ℕ) (tag : Tag) (told : Described row
       (λ off. let a = span_off j off in let f = was j class held in omega arith)
       (cases_eq j i)
 
+-- and all is in order still
+pub sound_described : (s t : Slab) (i k d : ℕ) (tag : Tag) → Described (rows_of s) (rows_of t) i k d tag → i < length (rows_of s) → ((class : ℕ) → get_or (homes_of s) i 0 ≡ held_of class → k + d ≤ get_or (layout s).sizes class 0) → ((ls : ℕ → List ℕ) → Lists s ls → Lists t ls) → homes_of t ≡ homes_of s → layout t ≡ layout s → Sound s → Sound t
+sound_described s t i k d tag told within fits lists stay same z =
+    subst (λ l. InOrder t.classes.all (rows_of t) l) (sym same)
+    (order_same s.classes.all t.classes.all (rows_of s) (rows_of t) (layout s) z lists stay (fitting_described (rows_of s) (rows_of t) i k d tag told (layout s) within z.fitting fits))
+
 -- columns of lengths that stay
 pub spans_stay : (rows rows' : List Row) → key_lens rows' ≡ key_lens rows → data_lens rows' ≡ data_lens rows → (j : ℕ) → get_or (spans_of rows') j 0 ≡ get_or (spans_of rows) j 0
 spans_stay rows rows' keys blocks j =
@@ -120,11 +127,11 @@ record_there s t i tag memory memory' key block lt same told w =
     )
 
 -- a record lies in page memory
-pub record_end : (s : Slab) → (i : ℕ) → Holds s i → (start (layout s) i + (get_or (key_lens (rows_of s)) i 0 + get_or (data_lens (rows_of s)) i 0) ≤ 4096 * s.pages) × (s.pages ≤ 256)
-record_end s i held =
+pub record_end : (s : Slab) → ∥ Sound s ∥₁ → (i : ℕ) → Holds s i → (start (layout s) i + (get_or (key_lens (rows_of s)) i 0 + get_or (data_lens (rows_of s)) i 0) ≤ 4096 * s.pages) × (s.pages ≤ 256)
+record_end s t i held =
     let some : 0 < get_or (homes_of s) i 0 = omega arith in
-    let inside = chunk_inside s i some in
-    let page = page_within s i some in
-    let fits = record_fits s i held in
+    let inside = chunk_inside s t i some in
+    let page = page_within s t i some in
+    let fits = record_fits s t i held in
     let sum = span_sum (rows_of s) i in
-    (omega arith, ∥∥₁_elim s.ok le_prop (λ z. z.placed.few))
+    (omega arith, ∥∥₁_elim t le_prop (λ z. z.placed.few))

@@ -15,7 +15,7 @@ use Rattle.slabs.specs.declared.slab.Slab.{Slab}
 use Rattle.slabs.specs.Rows.{blank, RowsRead}
 use Rattle.slabs.specs.Lists.{held_of, keep, Picks}
 use Rattle.slabs.specs.Layouts.{class_at}
-use Rattle.slabs.specs.Slabs.{rows_of, homes_of, layout, Lists, Holds}
+use Rattle.slabs.specs.Slabs.{rows_of, homes_of, layout, Lists, Sound, Holds}
 use Rattle.slabs.proofs.Ends.{rearmost_in, names, class_is}
 
 -- of the list xs the rows at the back did not pass, and `at` is the row ahead of them
@@ -85,12 +85,12 @@ module _ (says : Row → Bool → Type 0) (rows : List Row) (xs : List ℕ) wher
       }
 
 -- the row at hand holds a record of the class
-module _ (says : Row → Bool → Type 0) (s : Slab) (class i : ℕ) (w : (ls : ℕ → List ℕ) → Lists s ls → Walked (ls (held_of class)) (Some i) (NonePicked says (rows_of s))) where
+module _ (says : Row → Bool → Type 0) (s : Slab) (t : ∥ Sound s ∥₁) (class i : ℕ) (w : (ls : ℕ → List ℕ) → Lists s ls → Walked (ls (held_of class)) (Some i) (NonePicked says (rows_of s))) where
   pub walk_home : get_or (homes_of s) i 0 ≡ held_of class
-  walk_home = names s i (held_of class) (omega arith) (λ ls f. walk_in says (rows_of s) (ls (held_of class)) i (w ls f))
+  walk_home = names s t i (held_of class) (omega arith) (λ ls f. walk_in says (rows_of s) (ls (held_of class)) i (w ls f))
 
   pub walk_class : class_at (layout s) i ≡ class
-  walk_class = class_is s i class Held walk_home
+  walk_class = class_is s t i class Held walk_home
 
   pub walk_holds : Holds s i
   walk_holds = walk_home ∙ ap held_of (sym walk_class)

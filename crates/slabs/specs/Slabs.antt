@@ -1,4 +1,4 @@
--- A slab, and what its operations do to it.
+-- A slab, when it is sound, and what its operations do to it.
 use Rattle.std.specs.Prelude.{◌≡◌, ℕ, ◌*◌, Bool, true, false, List, is_some, Some, None, vec_items, Option, slice_index, slice_set}
 use Rattle.slabs.specs.declared.row.Row.{Row}
 use Rattle.slabs.specs.declared.grant.Grant.{Grant}
@@ -24,7 +24,7 @@ layout s = cut s.classes.all s.owners s.given s.pages
 abbrev pub Lists : Slab → (ℕ → List ℕ) → Type 0
 Lists s lists = Family s.classes.all (rows_of s) lists
 
--- a slab whose lists, pages, chunks and counts are in order: each is, since its type says so
+-- a slab whose lists, pages, chunks and counts are in order
 abbrev pub Sound : Slab → Type 0
 Sound s = InOrder s.classes.all (rows_of s) (layout s)
 

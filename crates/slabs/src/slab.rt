@@ -1,7 +1,6 @@
 //! A slab: the rows of all chunks, the classes, and which page was given to which class.
 
 ghost use Rattle.std.specs.Prelude.{◌≡◌};
-ghost use Rattle.slabs.specs.Orders.{cut, InOrder};
 
 use crate::classes::Classes;
 use crate::row::Row;
@@ -23,6 +22,8 @@ const MOST_PAGES: usize = 256;
 /// The bytes of a page.
 const PAGE: usize = plan::PAGE as usize;
 
+// `rows` is public, and whoever writes it may still ask for the pages of the slab: so `Sound` stands at the calls that need it, and
+// no invariant asks for it at the others.
 /// Pages, cut into chunks for the classes that they were given to.
 #[derive(Drop)]
 pub struct Slab {
@@ -33,7 +34,6 @@ pub struct Slab {
     owners: [u8; 256],
     given: u32,
     pages: u32,
-    ghost ok: { ∥ InOrder classes.all rows.items (cut classes.all owners given pages) ∥₁ },
 }
 
 impl Slab {

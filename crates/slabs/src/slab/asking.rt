@@ -6,7 +6,7 @@ ghost use Rattle.recency.specs.Lists.{rearmost};
 ghost use Rattle.slabs.specs.Rows.{blank, rests};
 ghost use Rattle.slabs.specs.Lists.{free_of, held_of, to_front};
 ghost use Rattle.slabs.specs.Layouts.{class_at, start};
-ghost use Rattle.slabs.specs.Slabs.{rows_of, layout, Lists, Shifted, Reordered, Holds, Granted, IfHeld, Tells};
+ghost use Rattle.slabs.specs.Slabs.{rows_of, layout, Lists, Sound, Shifted, Reordered, Holds, Granted, IfHeld, Tells};
 ghost use Rattle.slabs.specs.Records.{Retagged, FitsGrant, Filled, bytes_at, key_of, data_of, tags};
 
 use super::{PAGE, Slab};
@@ -27,6 +27,7 @@ fn cut(bytes: &[u8], from: usize, len: u32) -> &[u8]
 impl Slab {
     // The row, if it holds a record.
     fn held(&self, i: u32) -> Option<&Row>
+        requires { ∥ Sound self.now ∥₁ }
         ensures { Tells self.now i result (λ row. row.now ≡ slice_index_or (rows_of self.now) i blank) }
     {
         let row = self.rows.get(i as usize)?;
@@ -35,6 +36,7 @@ impl Slab {
 
     /// Whether a row holds a record.
     pub fn holds(&self, i: u32) -> bool
+        requires { ∥ Sound self.now ∥₁ }
         ensures { Decides result (Holds self.now i) }
     {
         self.held(i).is_some()
@@ -42,6 +44,8 @@ impl Slab {
 
     /// Removes a record: its chunk is free. False, and nothing done, where the row holds none.
     pub fn remove_if_held(&mut self, i: u32) -> bool
+        requires { ∥ Sound self.old ∥₁ }
+        ensures sound { ∥ Sound self.new ∥₁ }
         ensures removed { IfHeld self.old i result (Shifted self.old self.new i (held_of (class_at (layout self.old) i)) (free_of (class_at (layout self.old) i))) (self.new ≡ self.old) }
         ensures rests { rests (rows_of self.new) ≡ rests (rows_of self.old) }
     {
@@ -54,7 +58,9 @@ impl Slab {
 
     /// Moves a record to the front of its class. False, and nothing done, where the row holds none.
     pub fn move_to_front_if_held(&mut self, i: u32) -> bool
-        ensures { IfHeld self.old i result (Reordered self.old self.new (to_front i (held_of (class_at (layout self.old) i)))) (self.new ≡ self.old) }
+        requires { ∥ Sound self.old ∥₁ }
+        ensures sound { ∥ Sound self.new ∥₁ }
+        ensures moved { IfHeld self.old i result (Reordered self.old self.new (to_front i (held_of (class_at (layout self.old) i)))) (self.new ≡ self.old) }
     {
         let held = self.holds(i);
         if held {
@@ -66,6 +72,7 @@ impl Slab {
     /// The record ahead of one in its class, towards the front: a walk from the back goes on here. None where the row
     /// holds no record.
     pub fn ahead_if_held(&self, i: u32) -> Option<u32>
+        requires { ∥ Sound self.now ∥₁ }
         ensures ahead { Holds self.now i → (ls : ℕ → List ℕ) → Lists self.now ls → (a b : List ℕ) → ls (held_of (class_at (layout self.now) i)) ≡ a ++ i ∷ b → result ≡ rearmost a }
         ensures none { (Holds self.now i → ⊥) → result ≡ None }
     {
@@ -83,8 +90,10 @@ impl Slab {
         block: &[u8],
         tag: Tag,
     ) -> Result<u32, Grant>
-        requires { Granted self.old grant }
-        ensures { MatchResult result (λ row. (row ≡ grant.row) × FitsGrant self.old memory.old key.now block.now grant × Filled self.old self.new memory.old memory.new key.now block.now grant tag) (λ back. (back ≡ grant) × (FitsGrant self.old memory.old key.now block.now grant → ⊥) × (self.new ≡ self.old) × (memory.new ≡ memory.old)) }
+        requires sound { ∥ Sound self.old ∥₁ }
+        requires granted { Granted self.old grant }
+        ensures sound { ∥ Sound self.new ∥₁ }
+        ensures linked { MatchResult result (λ row. (row ≡ grant.row) × FitsGrant self.old memory.old key.now block.now grant × Filled self.old self.new memory.old memory.new key.now block.now grant tag) (λ back. (back ≡ grant) × (FitsGrant self.old memory.old key.now block.now grant → ⊥) × (self.new ≡ self.old) × (memory.new ≡ memory.old)) }
     {
         let room = self.size(grant.class) as usize;
         if key.len() > room
@@ -99,6 +108,7 @@ impl Slab {
     /// Some bytes from where the chunk of a row begins, as far as page memory has them: whoever looks for a key reads
     /// here, with no need to know that the row holds a record.
     pub fn bytes_of<'a>(&self, memory: &'a [u8], i: u32, len: u32) -> &'a [u8]
+        requires { ∥ Sound self.now ∥₁ }
         ensures { result.now ≡ bytes_at memory.now (start (layout self.now) i) len }
     {
         cut(memory, self.start(i), len)
@@ -106,6 +116,7 @@ impl Slab {
 
     /// The key of a record, where it lies in page memory, as far as page memory has it. None where the row holds no record.
     pub fn key_if_held<'a>(&self, memory: &'a [u8], i: u32) -> Option<&'a [u8]>
+        requires { ∥ Sound self.now ∥₁ }
         ensures { Tells self.now i result (λ key. key.now ≡ key_of self.now memory.now i) }
     {
         let row = self.held(i)?;
@@ -114,6 +125,7 @@ impl Slab {
 
     /// The data of a record, where they lie in page memory, as far as page memory has them. None where the row holds no record.
     pub fn data_if_held<'a>(&self, memory: &'a [u8], i: u32) -> Option<&'a [u8]>
+        requires { ∥ Sound self.now ∥₁ }
         ensures { Tells self.now i result (λ block. block.now ≡ data_of self.now memory.now i) }
     {
         let row = self.held(i)?;
@@ -123,6 +135,7 @@ impl Slab {
 
     /// What is told of a record beside its key and data. None where the row holds no record.
     pub fn tag_if_held(&self, i: u32) -> Option<Tag>
+        requires { ∥ Sound self.now ∥₁ }
         ensures { Tells self.now i result (λ tag. (d : Tag) → tag ≡ slice_index_or (tags (rows_of self.now)) i d) }
     {
         let row = self.held(i)?;
@@ -131,7 +144,9 @@ impl Slab {
 
     /// Tells something else of a record. False, and nothing done, where the row holds none.
     pub fn set_tag_if_held(&mut self, i: u32, tag: Tag) -> bool
-        ensures { IfHeld self.old i result (Retagged self.old self.new i tag) (self.new ≡ self.old) }
+        requires { ∥ Sound self.old ∥₁ }
+        ensures sound { ∥ Sound self.new ∥₁ }
+        ensures retagged { IfHeld self.old i result (Retagged self.old self.new i tag) (self.new ≡ self.old) }
     {
         let held = self.holds(i);
         if held {

@@ -3,7 +3,7 @@
 ghost use Rattle.std.specs.Prelude.{◌≡◌, [], length, replicate, vec_len};
 ghost use Rattle.plan.specs.Plans.{plan_sizes};
 ghost use Rattle.slabs.specs.Rows.{blank};
-ghost use Rattle.slabs.specs.Slabs.{Lists};
+ghost use Rattle.slabs.specs.Slabs.{Lists, Sound};
 ghost use Rattle.slabs.specs.Openings.{Opened, pages_of};
 
 use super::{MOST_PAGES, ROWS_PER_PAGE, Slab};
@@ -21,6 +21,7 @@ fn pages_for(rows: usize) -> usize
 impl Slab {
     /// A slab with no records over these rows, 85 for each page. What the rows held before does not matter.
     pub fn open(plan: &Plan, mut rows: Vec<Row>) -> Slab
+        ensures sound { ∥ Sound result ∥₁ }
         ensures empty { Lists result (λ _. []) }
         ensures opened { Opened (plan_sizes plan.now) (vec_len rows) result }
     {

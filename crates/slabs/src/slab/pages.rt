@@ -5,7 +5,7 @@ ghost use Rattle.slabs.specs.Rows.{rests};
 ghost use Rattle.slabs.specs.Classes.{count_at};
 ghost use Rattle.slabs.specs.declared.class.Stand.TheVariants.{Free};
 ghost use Rattle.slabs.specs.Lists.{free_of, granted_of, held_of, stocked, filled};
-ghost use Rattle.slabs.specs.Slabs.{rows_of, homes_of, layout, Lists, PageGiven};
+ghost use Rattle.slabs.specs.Slabs.{rows_of, homes_of, layout, Lists, Sound, PageGiven};
 
 use super::{ROWS_PER_PAGE, Slab};
 use crate::class::Stand;
@@ -22,6 +22,8 @@ impl Slab {
     /// Gives the next free page to a class: all its chunks are free. False, and nothing done, where there is no free
     /// page or no such class.
     pub fn give_page(&mut self, class: usize) -> bool
+        requires { ∥ Sound self.old ∥₁ }
+        ensures sound { ∥ Sound self.new ∥₁ }
         ensures answer { result ≡ (nat_lt self.old.given self.old.pages && nat_lt 0 (slice_index (layout self.old).chunks class)) }
         ensures given { MatchBool result (PageGiven self.old self.new class) (self.new ≡ self.old) }
         ensures rests { rests (rows_of self.new) ≡ rests (rows_of self.old) }
@@ -52,6 +54,7 @@ pub struct Tally {
 impl Slab {
     /// The counts of a class, all 0 where there is no such class. Every chunk of its pages is free, granted or used.
     pub fn tally(&self, class: usize) -> Tally
+        requires { ∥ Sound self.now ∥₁ }
         ensures pages { result.pages ≡ slice_index (layout self.now).shares class }
         ensures counts { (ls : ℕ → List ℕ) → Lists self.now ls → (result.free ≡ length (ls (free_of class))) × (result.granted ≡ length (ls (granted_of class))) × (result.used ≡ length (ls (held_of class))) }
         ensures whole { result.free + result.granted + result.used ≡ result.pages * slice_index (layout self.now).chunks class }
@@ -69,6 +72,7 @@ impl Slab {
 
     /// How many pages were not given out yet.
     pub fn free_pages(&self) -> u32
+        requires { ∥ Sound self.now ∥₁ }
         ensures { self.now.given + result ≡ self.now.pages }
     {
         self.pages - self.given

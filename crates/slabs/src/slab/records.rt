@@ -4,7 +4,7 @@ ghost use Rattle.std.specs.Prelude.{◌≡◌, ℕ, ◌+◌, ◌*◌, ◌<◌, �
 ghost use Rattle.slabs.specs.Rows.{homes};
 ghost use Rattle.slabs.specs.Lists.{granted_of, held_of};
 ghost use Rattle.slabs.specs.Layouts.{start, Chunk};
-ghost use Rattle.slabs.specs.Slabs.{rows_of, homes_of, layout, Lists, Shifted, Holds, Granted};
+ghost use Rattle.slabs.specs.Slabs.{rows_of, homes_of, layout, Lists, Sound, Shifted, Holds, Granted};
 ghost use Rattle.slabs.specs.Records.{Described, Written, Retagged, chunk_of, key_of, data_of, key_lens, data_lens, tags};
 
 use super::{PAGE, ROWS_PER_PAGE, Slab};
@@ -40,10 +40,9 @@ fn describe_row(rows: &mut [Row], i: u32, key_len: u32, data_len: u32, tag: Tag)
 // Page memory is lent to each call, and a record is named by a row of a slab that changes, so what is asked of them stands at the
 // calls: no type holds both.
 impl Slab {
-    // Has the row of a chunk tell of a record, which fits the chunk if the row holds it already.
+    // Has the row of a chunk tell of a record.
     fn describe(&mut self, i: u32, key_len: u32, data_len: u32, tag: Tag)
-        requires within { i < length (rows_of self.old) }
-        requires fits { (class : ℕ) → slice_index (homes_of self.old) i ≡ held_of class → key_len + data_len ≤ slice_index (layout self.old).sizes class }
+        requires { i < length (rows_of self.old) }
         ensures lists { (ls : ℕ → List ℕ) → Lists self.old ls → Lists self.new ls }
         ensures homes { homes_of self.new ≡ homes_of self.old }
         ensures layout { layout self.new ≡ layout self.old }
@@ -54,6 +53,7 @@ impl Slab {
 
     // Where the chunk of a row begins.
     pub(super) fn start(&self, i: u32) -> usize
+        requires sound { ∥ Sound self.now ∥₁ }
         ensures { result ≡ start (layout self.now) i }
     {
         let page = i as usize / ROWS_PER_PAGE;
@@ -71,9 +71,11 @@ impl Slab {
         block: &[u8],
         tag: Tag,
     ) -> u32
+        requires sound { ∥ Sound self.old ∥₁ }
         requires granted { Granted self.old grant }
         requires fits { length key.now + length block.now ≤ slice_index (layout self.old).sizes grant.class }
         requires memory { 4096 * self.old.pages ≤ length memory.old }
+        ensures sound { ∥ Sound self.new ∥₁ }
         ensures row { result ≡ grant.row }
         ensures held { Holds self.new result }
         ensures linked { Shifted self.old self.new grant.row (granted_of grant.class) (held_of grant.class) }
@@ -93,7 +95,8 @@ impl Slab {
 
     // The row of a record.
     pub(super) fn row(&self, i: u32) -> Row
-        requires { Holds self.now i }
+        requires sound { ∥ Sound self.now ∥₁ }
+        requires held { Holds self.now i }
         ensures key { result.key_len ≡ slice_index (key_lens (rows_of self.now)) i }
         ensures block { result.data_len ≡ slice_index (data_lens (rows_of self.now)) i }
         ensures tag { (d : Tag) → result.tag ≡ slice_index_or (tags (rows_of self.now)) i d }
@@ -103,6 +106,7 @@ impl Slab {
 
     /// The size of a class's chunks, 0 where there is no such class.
     pub fn size(&self, class: usize) -> u32
+        requires { ∥ Sound self.now ∥₁ }
         ensures { result ≡ slice_index (layout self.now).sizes class }
     {
         self.classes.all.get(class).map_or(0, |class| class.size)
@@ -110,6 +114,7 @@ impl Slab {
 
     /// The key of a record, where it lies in page memory.
     pub fn key_of<'a>(&self, memory: &'a [u8], i: u32) -> &'a [u8]
+        requires sound { ∥ Sound self.now ∥₁ }
         requires held { Holds self.now i }
         requires memory { 4096 * self.now.pages ≤ length memory.now }
         ensures { result.now ≡ key_of self.now memory.now i }
@@ -122,6 +127,7 @@ impl Slab {
 
     /// The data of a record, where it lies in page memory.
     pub fn data_of<'a>(&self, memory: &'a [u8], i: u32) -> &'a [u8]
+        requires sound { ∥ Sound self.now ∥₁ }
         requires held { Holds self.now i }
         requires memory { 4096 * self.now.pages ≤ length memory.now }
         ensures { result.now ≡ data_of self.now memory.now i }
@@ -134,7 +140,8 @@ impl Slab {
 
     /// What is told of a record beside its key and data.
     pub fn tag(&self, i: u32) -> Tag
-        requires { Holds self.now i }
+        requires sound { ∥ Sound self.now ∥₁ }
+        requires held { Holds self.now i }
         ensures { (d : Tag) → result ≡ slice_index_or (tags (rows_of self.now)) i d }
     {
         self.row(i).tag
@@ -142,8 +149,10 @@ impl Slab {
 
     /// Tells something else of a record.
     pub fn set_tag(&mut self, i: u32, tag: Tag)
-        requires { Holds self.old i }
-        ensures { Retagged self.old self.new i tag }
+        requires sound { ∥ Sound self.old ∥₁ }
+        requires held { Holds self.old i }
+        ensures sound { ∥ Sound self.new ∥₁ }
+        ensures retagged { Retagged self.old self.new i tag }
     {
         let row = self.row(i);
         self.describe(i, row.key_len, row.data_len, tag);

@@ -12,10 +12,10 @@ use Rattle.slabs.proofs.Ends.{lie_apart}
 use Rattle.slabs.proofs.laws.laws_stand.Goals as goal
 
 inside : Inside
-inside s i chunk =
-    let page : start (layout s) i + size_at (layout s) i ≤ i / 85 * 4096 + 4096 = ∥∥₁_elim s.ok le_prop (λ z. let h = z.placed.inside (class_at (layout s) i) _ chunk in omega arith) in
+inside s t i chunk =
+    let page : start (layout s) i + size_at (layout s) i ≤ i / 85 * 4096 + 4096 = ∥∥₁_elim t le_prop (λ z. let h = z.placed.inside (class_at (layout s) i) _ chunk in omega arith) in
     let few : i / 85 < s.pages =
-    ∥∥₁_elim s.ok le_prop (λ z.
+    ∥∥₁_elim t le_prop (λ z.
     ⊎_elim (λ lt. lt)
     (λ (past : s.pages ≤ i / 85).
     absurd (let o = z.placed.unowned (i / 85) (let g = z.placed.in_order in omega arith) in let e = ap (λ k. get_or (layout s).chunks k 0) o in let n = z.placed.none in omega arith))
@@ -23,11 +23,11 @@ inside s i chunk =
     (omega arith, page, omega arith)
 
 stands : Stands
-stands s ls f i chunk =
+stands s t ls f i chunk =
     let c = class_at (layout s) i in
     let home = get_or (homes_of s) i 0 in
-    let low : 3 * c < home = ∥∥₁_elim s.ok le_prop (λ z. (z.placed.listed i chunk).low) in
-    let high : home ≤ 3 * c + 3 = ∥∥₁_elim s.ok le_prop (λ z. (z.placed.listed i chunk).high) in
+    let low : 3 * c < home = ∥∥₁_elim t le_prop (λ z. (z.placed.listed i chunk).low) in
+    let high : home ≤ 3 * c + 3 = ∥∥₁_elim t le_prop (λ z. (z.placed.listed i chunk).high) in
     let x = f.named (free_of c) i (omega arith) in
     let y = f.named (granted_of c) i (omega arith) in
     let w = f.named (held_of c) i (omega arith) in (
@@ -39,9 +39,9 @@ stands s ls f i chunk =
     absent_of h home k e ne = grind (arith, nat_tests)
 
 shares : Shares
-shares s class some =
-    let up : get_or (layout s).shares class 0 ≤ count class (take s.given s.owners) = ∥∥₁_elim s.ok le_prop (λ z. let e = z.placed.shared class some in omega arith) in
-    let down : count class (take s.given s.owners) ≤ get_or (layout s).shares class 0 = ∥∥₁_elim s.ok le_prop (λ z. let e = z.placed.shared class some in omega arith) in
+shares s t class some =
+    let up : get_or (layout s).shares class 0 ≤ count class (take s.given s.owners) = ∥∥₁_elim t le_prop (λ z. let e = z.placed.shared class some in omega arith) in
+    let down : count class (take s.given s.owners) ≤ get_or (layout s).shares class 0 = ∥∥₁_elim t le_prop (λ z. let e = z.placed.shared class some in omega arith) in
     omega arith
 
 pub returns : goal.returns

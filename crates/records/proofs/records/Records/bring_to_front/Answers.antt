@@ -15,10 +15,10 @@ retag-requires-clause-hash c =
     let rs = rows_of c.args.self.now.slab in
     ap (λ x. x.hash) (c.tag-tag.ensures blank.tag ∙ at_column (λ row. row.tag) rs c.args.i) ∙ sym (at_column (λ row. row.tag.hash) rs c.args.i)
 
-pub invariant_of-self : goal.invariant_of-self
-invariant_of-self c =
-    let went = c.move_to_front.ensures in
-    record { indexed = reindexed c.retag.new.self c.move_to_front.new.self went.rests went.homes went.layout }
+pub invariant_of-self-clause-indexed : goal.invariant_of-self-clause-indexed
+invariant_of-self-clause-indexed c =
+    let went = c.move_to_front.ensures.moved in
+    reindexed c.retag.new.self c.move_to_front.new.self went.rests went.homes went.layout
 
 pub returns-clause-shown : goal.returns-clause-shown
 returns-clause-shown c = λ setup memory ks sh.
@@ -31,6 +31,6 @@ returns-clause-shown c = λ setup memory ks sh.
     let retagged : Retagged s u.slab i (at_second c.args.second (get_or (tags (rows_of s)) i blank.tag)) =
     subst (λ x. Retagged s u.slab i (at_second c.args.second x)) tag_is told in
     let moved : Reordered u.slab new (to_front i (held_of (class_at (layout s) i))) =
-    subst (λ l. Reordered u.slab new (to_front i (held_of (class_at l i)))) told.layout_stays c.move_to_front.ensures in
+    subst (λ l. Reordered u.slab new (to_front i (held_of (class_at l i)))) told.layout_stays c.move_to_front.ensures.moved in
     let lt : i < length (rows_of s) = rw (length-map (rows_of s) (λ row. row.home)) at (within (homes_of s) i (rw c.requires.held (omega arith))) in
     shows_fronted setup s memory ks sh i c.requires.held lt u.slab new c.args.second retagged moved

@@ -20,6 +20,6 @@ returns-clause-short c =
     ∙ ap (λ k. bytes_at memory (start (layout s) i + k) (get_or (data_lens (rows_of s)) i 0)) key
     ∙ ap (λ n. bytes_at memory (start (layout s) i + row.key_len) n) block in
     let span = at_column (λ r. r.key_len + r.data_len) (rows_of s) i in
-    let fits = record_fits s i c.requires.held in
-    let inside = chunk_inside s i (rw c.requires.held (omega arith)) in
+    let fits = record_fits s c.args.self.now.sound i c.requires.held in
+    let inside = chunk_inside s c.args.self.now.sound i (rw c.requires.held (omega arith)) in
     omega (arith, ap length is, length-take row.data_len (drop (start (layout s) i + row.key_len) memory))

@@ -5,8 +5,8 @@ use Rattle.records.proofs.Granting.{free_not, granted_not, held_before, held_aft
 use Rattle.records.proofs.Indexing.{reindexed_by}
 use Rattle.records.proofs.records.Records.give_back.Goals as goal
 
-pub invariant_of-self : goal.invariant_of-self
-invariant_of-self c =
+pub invariant_of-self-clause-indexed : goal.invariant_of-self-clause-indexed
+invariant_of-self-clause-indexed c =
     let t = c.args.self.now in
     let row = c.args.grant.row in
     let new = c.give_back.new.self in
@@ -14,7 +14,7 @@ invariant_of-self c =
     let lt : row < length (homes_of t.slab) = within (homes_of t.slab) row (rw c.requires.granted (omega arith)) in
     let before = held_before t.slab new row _ _ went c.requires.granted lt (granted_not c.args.grant.class) (free_not c.args.grant.class) in
     let after = held_after t.slab new row _ _ went c.requires.granted lt (granted_not c.args.grant.class) (free_not c.args.grant.class) in
-    record { indexed = reindexed_by t new c.give_back.ensures.rests before after }
+    reindexed_by t new c.give_back.ensures.rests before after
 
 pub returns-clause-shown : goal.returns-clause-shown
 returns-clause-shown c =

@@ -1,10 +1,10 @@
 use Rattle.records.proofs.Paging.{gave_indexed, gave_granted, gave_shown, gave_answer}
 use Rattle.records.proofs.records.Records.give_page.Goals as goal
 
-pub invariant_of-self : goal.invariant_of-self
-invariant_of-self c =
+pub invariant_of-self-clause-indexed : goal.invariant_of-self-clause-indexed
+invariant_of-self-clause-indexed c =
     let gave = c.give_page.ensures in
-    record { indexed = gave_indexed c.args.self.now c.give_page.new.self c.args.class gave.rests c.give_page.result gave.answer gave.given }
+    gave_indexed c.args.self.now c.give_page.new.self c.args.class gave.rests c.give_page.result gave.answer gave.given
 
 pub returns-clause-answer : goal.returns-clause-answer
 returns-clause-answer c = let gave = c.give_page.ensures in gave_answer c.args.self.now c.give_page.new.self c.args.class gave.rests c.give_page.result gave.answer

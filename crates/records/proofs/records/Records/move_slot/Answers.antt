@@ -38,27 +38,25 @@ module _ (c : After-move_one) where
   stays : map unchained (vec_items rows) ≡ map unchained (rows_of old.slab)
   stays = ap (map unchained) rows_out ∙ c.move_one.ensures.rest ∙ ap (map unchained) c.deref_mut-2.ensures.value
 
-pub invariant_of-self : goal.invariant_of-self
-invariant_of-self c =
-    let a = (goal.at.invariant_of-self c).After-move_one in
+pub invariant_of-self-clause-sound : goal.invariant_of-self-clause-sound
+invariant_of-self-clause-sound c =
+    let a = (goal.at.invariant_of-self-clause-sound c).After-move_one in
     let slab = c.args.self.now.slab in
-    (∥∥₁_map slab.ok (order_same (rows_of slab) (vec_items (rows a)) (stays a) slab.classes.all (layout slab)), tt)
+    ∥∥₁_map c.args.self.now.sound (order_same (rows_of slab) (vec_items (rows a)) (stays a) slab.classes.all (layout slab))
 
-pub invariant_of-self-2 : goal.invariant_of-self-2
-invariant_of-self-2 c =
-    let a = (goal.at.invariant_of-self-2 c).After-move_one in
+pub invariant_of-self-clause-indexed : goal.invariant_of-self-clause-indexed
+invariant_of-self-clause-indexed c =
+    let a = (goal.at.invariant_of-self-clause-indexed c).After-move_one in
     let t = old a in
     let rows_are = c.deref_mut-2.ensures.value in
     let out = rows_out a in
     let heads_long : length c.move_one.new.heads ≡ t.heads.len = omega (arith, c.move_one.auto.heads, c.deref_mut.ensures.len) in
-    record {
-      indexed = ∥∥₁_map t.indexed (λ ix. record {
-        ids = ix.ids;
-        kept = holds_as (size c.move_one.new.self) ix.ids (with_items_is t.heads c.move_one.new.heads heads_long) (ap (map (λ row. row.chain)) out) (ap (map (λ row. row.tag.hash)) out)
-            (c.move_one.ensures.held ix.ids (holds_as (size t.table) ix.ids c.deref_mut.ensures.value (ap (map (λ row. row.chain)) rows_are) (ap (map (λ row. row.tag.hash)) rows_are) ix.kept));
-        exact = λ k. ix.exact k ∙ ap (λ h. cond (eqb (get_or h k 0) (held_of (class_at (layout t.slab) k))) 1 0) (sym (homes_same (rows_of t.slab) (vec_items (rows a)) (stays a)));
-      });
-    }
+    ∥∥₁_map t.indexed (λ ix. record {
+      ids = ix.ids;
+      kept = holds_as (size c.move_one.new.self) ix.ids (with_items_is t.heads c.move_one.new.heads heads_long) (ap (map (λ row. row.chain)) out) (ap (map (λ row. row.tag.hash)) out)
+          (c.move_one.ensures.held ix.ids (holds_as (size t.table) ix.ids c.deref_mut.ensures.value (ap (map (λ row. row.chain)) rows_are) (ap (map (λ row. row.tag.hash)) rows_are) ix.kept));
+      exact = λ k. ix.exact k ∙ ap (λ h. cond (eqb (get_or h k 0) (held_of (class_at (layout t.slab) k))) 1 0) (sym (homes_same (rows_of t.slab) (vec_items (rows a)) (stays a)));
+    })
 
 pub returns-clause-granted : goal.returns-clause-granted
 returns-clause-granted c = λ i class h.

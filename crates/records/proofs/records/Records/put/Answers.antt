@@ -8,7 +8,7 @@ use Rattle.chained.specs.Chains.{Keeps, size}
 use Rattle.chained.proofs.Sound.{holds_as}
 use Rattle.slabs.specs.declared.row.Row.{Row}
 use Rattle.slabs.specs.declared.slab.Slab.{Slab}
-use Rattle.slabs.specs.Slabs.{InOrder, layout, rows_of}
+use Rattle.slabs.specs.Slabs.{layout, rows_of}
 use Rattle.records.specs.Standing.{Indexed}
 use Rattle.records.proofs.Chaining.{unchained, order_same}
 use Rattle.records.proofs.Linking.{outside, still_kept, put_exact, put_granted, put_spent, put_shown}
@@ -45,18 +45,17 @@ module _ (c : After-insert) where
   stays : map unchained (vec_items rows) ≡ map unchained (rows_of linked)
   stays = ap (map unchained) rows_out ∙ c.insert.ensures.rest ∙ ap (map unchained) c.deref_mut-2.ensures.value
 
-  in_order : ∥ InOrder linked.classes.all (vec_items rows) (layout linked) ∥₁
-  in_order = ∥∥₁_map linked.ok (order_same (rows_of linked) (vec_items rows) stays linked.classes.all (layout linked))
-
   abbrev chained : Slab
-  chained = record { rows = rows; classes = linked.classes; owners = linked.owners; given = linked.given; pages = linked.pages; ok = in_order }
+  chained = record { rows = rows; classes = linked.classes; owners = linked.owners; given = linked.given; pages = linked.pages }
 
-pub invariant_of-self : goal.invariant_of-self
-invariant_of-self c = (in_order (goal.at.invariant_of-self c).After-insert, tt)
+pub invariant_of-self-clause-sound : goal.invariant_of-self-clause-sound
+invariant_of-self-clause-sound c =
+    let a = (goal.at.invariant_of-self-clause-sound c).After-insert in
+    ∥∥₁_map c.link-row.ensures.sound (order_same (rows_of (linked a)) (vec_items (rows a)) (stays a) (linked a).classes.all (layout (linked a)))
 
-pub invariant_of-self-2 : goal.invariant_of-self-2
-invariant_of-self-2 c =
-    let a = (goal.at.invariant_of-self-2 c).After-insert in
+pub invariant_of-self-clause-indexed : goal.invariant_of-self-clause-indexed
+invariant_of-self-clause-indexed c =
+    let a = (goal.at.invariant_of-self-clause-indexed c).After-insert in
     let t = c.args.self.now in
     let grant = c.args.grant in
     let u = c.link-row.new.self in
@@ -74,13 +73,11 @@ invariant_of-self-2 c =
     (holds_as (size t.table) ix.ids heads_are (ap (map (λ row. row.chain)) rows_are) (ap (map (λ row. row.tag.hash)) rows_are)
     (still_kept t grant.row grant.class c.requires.granted u made.linked _ _ c.args.tag made.described ix))
     (ap (λ n. count n ix.ids) row_is ∙ outside t grant.row grant.class c.requires.granted u made.linked _ _ c.args.tag made.described ix)) in
-    record {
-      indexed = ∥∥₁_map t.indexed (λ ix. record {
-        ids = grant.row ∷ ix.ids;
-        kept = holds_as (size t.table) (grant.row ∷ ix.ids) (with_items_is t.heads hs heads_long) (ap (map (λ row. row.chain)) out) (ap (map (λ row. row.tag.hash)) out) (kept ix);
-        exact = put_exact t grant.row grant.class c.requires.granted u made.linked _ _ c.args.tag made.described (chained a) (stays a) refl refl ix;
-      });
-    }
+    ∥∥₁_map t.indexed (λ ix. record {
+      ids = grant.row ∷ ix.ids;
+      kept = holds_as (size t.table) (grant.row ∷ ix.ids) (with_items_is t.heads hs heads_long) (ap (map (λ row. row.chain)) out) (ap (map (λ row. row.tag.hash)) out) (kept ix);
+      exact = put_exact t grant.row grant.class c.requires.granted u made.linked _ _ c.args.tag made.described (chained a) (stays a) refl refl ix;
+    })
 
 pub returns : goal.returns
 returns c =

@@ -11,6 +11,6 @@ pub returns : goal.returns
 returns c =
     let s = c.args.self.now.slab in
     record {
-      held = picked_held s c.args.class rearmost c.rearmost.result c.rearmost.ensures rearmost_on;
-      shown = λ setup memory ks. picked_shown s c.args.class rearmost c.rearmost.result c.rearmost.ensures (last (λ _. true)) setup memory ks (map_rear (record_at (layout s) (rows_of s) memory));
+      held = picked_held s c.args.self.now.sound c.args.class rearmost c.rearmost.result c.rearmost.ensures rearmost_on;
+      shown = λ setup memory ks. picked_shown s c.args.self.now.sound c.args.class rearmost c.rearmost.result c.rearmost.ensures (last (λ _. true)) setup memory ks (map_rear (record_at (layout s) (rows_of s) memory));
     }

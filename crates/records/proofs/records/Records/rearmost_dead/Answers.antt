@@ -16,6 +16,6 @@ returns c =
     let test : ℕ → Bool = λ i. dead_at c.args.second (get_or (rows_of s) i blank).tag.expiry in
     let told = c.rearmost_that.ensures test (λ i b k. search rules) in
     record {
-      held = picked_held s c.args.class (λ ids. rearmost (keep test ids)) c.rearmost_that.result told (rearmost_that_on test);
-      shown = λ setup memory ks. picked_shown s c.args.class (λ ids. rearmost (keep test ids)) c.rearmost_that.result told (last (dead c.args.second)) setup memory ks (map_rear_that (dead c.args.second) (record_at (layout s) (rows_of s) memory));
+      held = picked_held s c.args.self.now.sound c.args.class (λ ids. rearmost (keep test ids)) c.rearmost_that.result told (rearmost_that_on test);
+      shown = λ setup memory ks. picked_shown s c.args.self.now.sound c.args.class (λ ids. rearmost (keep test ids)) c.rearmost_that.result told (last (dead c.args.second)) setup memory ks (map_rear_that (dead c.args.second) (record_at (layout s) (rows_of s) memory));
     }

@@ -1,10 +1,10 @@
 use Rattle.records.proofs.Granting.{take_indexed, take_only, take_shown, take_room}
 use Rattle.records.proofs.records.Records.take.Goals as goal
 
-pub invariant_of-self : goal.invariant_of-self
-invariant_of-self c =
+pub invariant_of-self-clause-indexed : goal.invariant_of-self-clause-indexed
+invariant_of-self-clause-indexed c =
     let took = c.take.ensures in
-    record { indexed = take_indexed c.args.self.now c.take.new.self c.args.class took.rests c.take.result took.found took.taken }
+    take_indexed c.args.self.now c.take.new.self c.args.class took.rests c.take.result took.found took.taken
 
 pub returns-clause-only : goal.returns-clause-only
 returns-clause-only c = let took = c.take.ensures in take_only c.args.self.now c.take.new.self c.args.class took.rests c.take.result took.found took.taken

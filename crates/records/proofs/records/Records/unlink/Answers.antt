@@ -58,15 +58,15 @@ module _ (c : After-remove) where
   homes_are : homes (vec_items rows) ≡ homes_of old.slab
   homes_are = homes_same (rows_of old.slab) (vec_items rows) stays
 
-pub invariant_of-self : goal.invariant_of-self
-invariant_of-self c =
-    let a = (goal.at.invariant_of-self c).After-remove in
+pub remove-requires-2-clause-sound : goal.remove-requires-2-clause-sound
+remove-requires-2-clause-sound c =
+    let a = (goal.at.remove-requires-2-clause-sound c).After-remove in
     let slab = c.args.self.now.slab in
-    (∥∥₁_map slab.ok (order_same (rows_of slab) (vec_items (rows a)) (stays a) slab.classes.all (layout slab)), tt)
+    ∥∥₁_map c.args.self.now.sound (order_same (rows_of slab) (vec_items (rows a)) (stays a) slab.classes.all (layout slab))
 
-pub remove-requires-2 : goal.remove-requires-2
-remove-requires-2 c =
-    ap (λ h. get_or h c.args.i 0) (homes_are (goal.at.remove-requires-2 c).After-remove) ∙ c.requires.held
+pub remove-requires-2-clause-held : goal.remove-requires-2-clause-held
+remove-requires-2-clause-held c =
+    ap (λ h. get_or h c.args.i 0) (homes_are (goal.at.remove-requires-2-clause-held c).After-remove) ∙ c.requires.held
 
 -- the table's rows without one that became free
 exact_after : (homes homes' ids : List ℕ) (i c : ℕ) (owner : ℕ → ℕ) → owner i ≡ c → i < length homes → homes' ≡ set homes i (free_of c) → ((k : ℕ) → count k ids ≡ cond (eqb (get_or homes k 0) (held_of (owner k))) 1 0) → (k : ℕ) → count k (without i ids) ≡ cond (eqb (get_or homes' k 0) (held_of (owner k))) 1 0
@@ -82,9 +82,9 @@ exact_after homes homes' ids i c owner own lt is exact k =
     ∙ ap (λ h. cond (eqb h (held_of (owner k))) 1 0) (sym (ap (λ h. get_or h k 0) is ∙ get_or-set_other homes i k (free_of c) 0 ne)))
     (cases_eq k i)
 
-pub invariant_of-self-2 : goal.invariant_of-self-2
-invariant_of-self-2 c =
-    let a = (goal.at.invariant_of-self-2 c).After-remove in
+pub invariant_of-self-clause-indexed : goal.invariant_of-self-clause-indexed
+invariant_of-self-clause-indexed c =
+    let a = (goal.at.invariant_of-self-clause-indexed c).After-remove in
     let t = c.args.self.now in
     let i = c.args.i in
     let gone = c.remove-2.ensures in
@@ -112,7 +112,7 @@ invariant_of-self-2 c =
           exact_after (homes_of t.slab) (homes_of new) ix.ids i class (class_at (layout t.slab)) refl (there a) (removed.homes ∙ ap (λ h. set h i (free_of class)) (homes_are a)) ix.exact k
           ∙ ap (λ l. cond (eqb (get_or (homes_of new) k 0) (held_of (class_at l k))) 1 0) (sym removed.layout);
     } in
-    record { indexed = ∥∥₁_map t.indexed indexed }
+    ∥∥₁_map t.indexed indexed
 
 pub returns : goal.returns
 returns c =

@@ -15,4 +15,4 @@ returns c = λ ls f a b e.
     let list = list_at s.classes.all class Held in
     c.ahead_of.ensures list a b
     (subst (λ rows. RowsRead list rows (a ++ i ∷ b)) (sym c.deref.ensures.value)
-    (subst (λ ids. RowsRead list (rows_of s) ids) e (f.reads class Held (class_few s i class Held c.requires))))
+    (subst (λ ids. RowsRead list (rows_of s) ids) e (f.reads class Held (class_few s c.requires.sound i class Held c.requires.held))))

@@ -4,14 +4,6 @@ use Rattle.slabs.specs.Openings.{pages_of}
 use Rattle.slabs.proofs.Opening.{rows_opened, opened_order, opened_lists, opened_sizes, opened_chunks}
 use Rattle.slabs.proofs.slab.Slab.open.Goals as goal
 
-pub invariant_of-result : goal.invariant_of-result
-invariant_of-result c =
-    let pages = c.pages_for-pages.result in
-    let few : pages ≤ 256 = omega (arith, c.pages_for-pages.ensures) in
-    let told = c.planned.ensures in
-    let rows = rows_opened (c.fill.ensures.items (λ y e. e)) pages (omega (arith, c.truncate.ensures.len)) c.blank.ensures in
-    record { ok = ∣ opened_order c.planned.result.all c.fill.new.self.items (replicate 256 0) pages c.args.plan.now rows few refl told.long told.classes ∣₁ }
-
 pub returns : goal.returns
 returns c =
     let pages = c.pages_for-pages.result in
@@ -23,6 +15,7 @@ returns c =
     let items = c.fill.new.self.items in
     let plan = c.args.plan.now in
     record {
+      sound = ∣ opened_order classes items (replicate 256 0) pages plan rows few refl told.long told.classes ∣₁;
       empty = opened_lists classes items (replicate 256 0) pages plan rows few refl told.long told.classes;
       opened =
           record {

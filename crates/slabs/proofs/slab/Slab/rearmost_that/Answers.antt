@@ -20,8 +20,8 @@ index-requires g c =
     let i = c.in-Some.i in
     let class = c.args.class in
     let says = FnReturnsAt g.F.Fn c.args.test in
-    let home = walk_home says s class i (λ ls f. subst (λ a. Walked (ls (held_of class)) a (NonePicked says (rows_of s))) c.in-Some.is (c.loop-at.invariant ls f)) in
-    omega (arith, listed_within s i (omega arith))
+    let home = walk_home says s c.requires.sound class i (λ ls f. subst (λ a. Walked (ls (held_of class)) a (NonePicked says (rows_of s))) c.in-Some.is (c.loop-at.invariant ls f)) in
+    omega (arith, listed_within s c.requires.sound i (omega arith))
 
 pub returns-then-test : goal.returns-then-test
 returns-then-test g c = λ picks same ls f.
@@ -30,17 +30,17 @@ returns-then-test g c = λ picks same ls f.
     let class = c.args.class in
     let says = FnReturnsAt g.F.Fn c.args.test in
     let w : (ls : ℕ → List ℕ) → Lists s ls → Walked (ls (held_of class)) (Some i) (NonePicked says (rows_of s)) = λ ls f. subst (λ a. Walked (ls (held_of class)) a (NonePicked says (rows_of s))) c.in-Some.is (c.loop-at.invariant ls f) in
-    let home = walk_home says s class i w in
-    let row = get_or_default (rows_of s) i blank c.index.result.now (listed_within s i (omega arith)) ∙ sym c.index.ensures in
+    let home = walk_home says s c.requires.sound class i w in
+    let row = get_or_default (rows_of s) i blank c.index.result.now (listed_within s c.requires.sound i (omega arith)) ∙ sym c.index.ensures in
     let told : says (get_or (rows_of s) i blank) true = subst (λ x. says x true) (sym row) (says_at g.F.Fn c.test.ensures c.if-test.true) in
     walk_finds says (rows_of s) (ls (held_of class)) picks same i (sym (same i true told)) (w ls f)
 
-pub ahead_of-at-requires : goal.ahead_of-at-requires
-ahead_of-at-requires g c =
+pub ahead_of-at-requires-clause-held : goal.ahead_of-at-requires-clause-held
+ahead_of-at-requires-clause-held g c =
     let s = c.args.self.now in
     let class = c.args.class in
     let says = FnReturnsAt g.F.Fn c.args.test in
-    walk_holds says s class c.in-Some.i (λ ls f. subst (λ a. Walked (ls (held_of class)) a (NonePicked says (rows_of s))) c.in-Some.is (c.loop-at.invariant ls f))
+    walk_holds says s c.requires.sound class c.in-Some.i (λ ls f. subst (λ a. Walked (ls (held_of class)) a (NonePicked says (rows_of s))) c.in-Some.is (c.loop-at.invariant ls f))
 
 pub loop-at-smaller : goal.loop-at-smaller
 loop-at-smaller g c =
@@ -49,10 +49,10 @@ loop-at-smaller g c =
     let class = c.args.class in
     let says = FnReturnsAt g.F.Fn c.args.test in
     let w : (ls : ℕ → List ℕ) → Lists s ls → Walked (ls (held_of class)) (Some i) (NonePicked says (rows_of s)) = λ ls f. subst (λ a. Walked (ls (held_of class)) a (NonePicked says (rows_of s))) c.in-Some.is (c.loop-at.invariant ls f) in
-    ∥∥₁_elim s.ok le_prop (λ z.
+    ∥∥₁_elim c.requires.sound le_prop (λ z.
     subst (λ o. left_ahead (map (λ row. row.prev) (rows_of s)) c.ahead_of-at.result < left_ahead (map (λ row. row.prev) (rows_of s)) o) (sym c.in-Some.is)
     (walk_less (list_at s.classes.all class Held) says (rows_of s) (z.lists (held_of class)) i c.ahead_of-at.result
-    (z.listed.reads class Held (class_few s i class Held (walk_home says s class i w))) (w z.lists z.listed) (walk_on says s class i w c.ahead_of-at.result c.ahead_of-at.ensures z.lists z.listed)))
+    (z.listed.reads class Held (class_few s c.requires.sound i class Held (walk_home says s c.requires.sound class i w))) (w z.lists z.listed) (walk_on says s c.requires.sound class i w c.ahead_of-at.result c.ahead_of-at.ensures z.lists z.listed)))
 
 pub loop-at-preserved : goal.loop-at-preserved
 loop-at-preserved g c = λ ls f.
@@ -61,7 +61,7 @@ loop-at-preserved g c = λ ls f.
     let class = c.args.class in
     let says = FnReturnsAt g.F.Fn c.args.test in
     let w : (ls : ℕ → List ℕ) → Lists s ls → Walked (ls (held_of class)) (Some i) (NonePicked says (rows_of s)) = λ ls f. subst (λ a. Walked (ls (held_of class)) a (NonePicked says (rows_of s))) c.in-Some.is (c.loop-at.invariant ls f) in
-    let home = walk_home says s class i w in
-    let row = get_or_default (rows_of s) i blank c.index.result.now (listed_within s i (omega arith)) ∙ sym c.index.ensures in
+    let home = walk_home says s c.requires.sound class i w in
+    let row = get_or_default (rows_of s) i blank c.index.result.now (listed_within s c.requires.sound i (omega arith)) ∙ sym c.index.ensures in
     let told : says (get_or (rows_of s) i blank) false = subst (λ x. says x false) (sym row) (says_at g.F.Fn c.test.ensures c.if-test.false) in
-    walk_goes says (rows_of s) (ls (held_of class)) i c.ahead_of-at.result told (w ls f) (walk_on says s class i w c.ahead_of-at.result c.ahead_of-at.ensures ls f)
+    walk_goes says (rows_of s) (ls (held_of class)) i c.ahead_of-at.result told (w ls f) (walk_on says s c.requires.sound class i w c.ahead_of-at.result c.ahead_of-at.ensures ls f)

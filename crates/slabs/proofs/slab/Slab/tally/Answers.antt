@@ -13,11 +13,11 @@ returns-in_default-clause-counts c = λ ls f.
     let s = c.args.self.now in
     let class = c.args.class in
     let past = c.in_default.ensures.lookup.3 in
-    let far : 33 ≤ class = omega (arith, classes_long s) in
+    let far : 33 ≤ class = omega (arith, classes_long s c.requires) in
     let zero = c.default.ensures in (
-      zero.1.0 ∙ sym (ap length (beyond s ls f Free class far)),
-      zero.1.1.0 ∙ sym (ap length (beyond s ls f Granted class far)),
-      zero.1.1.1 ∙ sym (ap length (beyond s ls f Held class far)),
+      zero.1.0 ∙ sym (ap length (beyond s c.requires ls f Free class far)),
+      zero.1.1.0 ∙ sym (ap length (beyond s c.requires ls f Granted class far)),
+      zero.1.1.1 ∙ sym (ap length (beyond s c.requires ls f Held class far)),
     )
 
 pub returns-clause-counts : goal.returns-clause-counts
@@ -25,7 +25,7 @@ returns-clause-counts c = λ ls f.
     let s = c.args.self.now in
     let class = c.args.class in
     let there = c.in-Some.ensures.lookup.3 in
-    let few : class < 33 = omega (arith, classes_long s) in
+    let few : class < 33 = omega (arith, classes_long s c.requires) in
     let of = λ (stand : Stand). ap (λ x. (at_stand x stand).count) (there.1 no_class) ∙ f.counted class stand few in
     (ap (λ x. x.count) c.at.ensures ∙ of Free, ap (λ x. x.count) c.at-2.ensures ∙ of Granted, ap (λ x. x.count) c.at-3.ensures ∙ of Held)
 
@@ -34,9 +34,9 @@ returns-clause-whole c =
     let s = c.args.self.now in
     let class = c.args.class in
     let there = c.in-Some.ensures.lookup.3 in
-    let few : class < 33 = omega (arith, classes_long s) in
+    let few : class < 33 = omega (arith, classes_long s c.requires) in
     let of = λ (stand : Stand). ap (λ x. (at_stand x stand).count) (there.1 no_class) in
     let share = get_or-map (λ x. x.pages) s.classes.all class no_class 0 there.0 in
     let pages = ap (λ x. x.pages) (there.1 no_class) in
     let product = ap (λ x. x * get_or (layout s).chunks class 0) (pages ∙ sym share) in
-    omega (arith, counts_whole s class few, ap (λ x. x.count) c.at.ensures ∙ of Free, ap (λ x. x.count) c.at-2.ensures ∙ of Granted, ap (λ x. x.count) c.at-3.ensures ∙ of Held)
+    omega (arith, counts_whole s c.requires class few, ap (λ x. x.count) c.at.ensures ∙ of Free, ap (λ x. x.count) c.at-2.ensures ∙ of Granted, ap (λ x. x.count) c.at-3.ensures ∙ of Held)
