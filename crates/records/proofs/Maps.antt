@@ -1,5 +1,5 @@
 -- Lists of records that are read off lists of row numbers. Assumes nothing.
-use Rattle.std.proofs.Common.{◌≡◌, ℕ, ◌+◌, ◌≤◌, Bool, true, false, cond, not, eqb, List, [], ◌∷◌, map, Some, None, filter, Option, sym, refl, ap, ◌∙◌, subst, arith}
+use Rattle.std.proofs.Common.{◌≡◌, ℕ, ◌+◌, ◌≤◌, Bool, true, false, cond, not, eqb, List, [], ◌∷◌, ◌++◌, map, Some, None, filter, Option, sym, refl, ap, ◌∙◌, subst, arith}
 use Rattle.std.specs.Option.{option_map}
 use Rattle.std.proofs.lemmas.Bool.{both_ways, eq-eqb, eqb-true, eqb-false}
 use Rattle.recency.specs.Numbers as rows
@@ -8,7 +8,7 @@ use Rattle.slabs.specs.Lists.{keep}
 use Rattle.slabs.proofs.Ends.{foremost_in, rearmost_in}
 use Rattle.recency.specs.Lists as lists
 use Rattle.model.specs.Records.{Key, Record, has_key, other_key, expiring}
-use Rattle.model.specs.Store.{last, or_else, aged}
+use Rattle.model.specs.Store.{first, last, or_else, aged}
 use Rattle.recency.proofs.Counts.{count_without}
 use Rattle.model.proofs.Held.{On, here, there, count, count_cons, count_some, same_key, on_map}
 
@@ -107,6 +107,15 @@ pub map_rear : (f : ℕ → Record) (ids : List ℕ) → last (λ _. true) (map 
 map_rear f [] = refl
 map_rear f (i ∷ ids) = last_from f i ids
 
+-- a walk from the back: none behind passes, and this one does
+pub walk_found : (p : Record → Bool) (f : ℕ → Record) (a : List ℕ) (i : ℕ) (b : List ℕ) → p (f i) ≡ true → last p (map f b) ≡ None → last p (map f (a ++ i ∷ b)) ≡ Some (f i)
+walk_found p f [] i b passes no_more = rw (no_more, passes)
+walk_found p f (k ∷ a) i b passes no_more = rw (walk_found p f a i b passes no_more)
+
+-- and one that fails too
+pub walk_on : (p : Record → Bool) (f : ℕ → Record) (i : ℕ) (b : List ℕ) → p (f i) ≡ false → last p (map f b) ≡ None → last p (map f (i ∷ b)) ≡ None
+walk_on p f i b fails no_more = rw (no_more, fails)
+
 -- the rearmost of the rows that pass a test has the rearmost record that passes it
 one_more_behind : (f : ℕ → Record) (i : ℕ) (ids : List ℕ) → option_map f (rearmost (i ∷ ids)) ≡ or_else (option_map f (rearmost ids)) (Some (f i))
 one_more_behind f i [] = refl
@@ -123,6 +132,11 @@ map_rear_that p f (i ∷ ids) = by (p (f i)) (map_rear_that p f ids)
     by : (b : Bool) → last p (map f ids) ≡ option_map f (rearmost (keep (λ i. p (f i)) ids)) → or_else (last p (map f ids)) (cond b (Some (f i)) None) ≡ option_map f (rearmost (cond b (i ∷ keep (λ i. p (f i)) ids) (keep (λ i. p (f i)) ids)))
     by true rec = ap (λ o. or_else o (Some (f i))) rec ∙ sym (one_more_behind f i (keep (λ i. p (f i)) ids))
     by false rec = or_none (last p (map f ids)) ∙ rec
+
+-- the foremost row has the foremost record
+pub map_front : (f : ℕ → Record) (ids : List ℕ) → first (λ _. true) (map f ids) ≡ option_map f (foremost ids)
+map_front f [] = refl
+map_front f (i ∷ ids) = refl
 
 -- what is picked from a list is on it
 pub foremost_on : (ids : List ℕ) (i : ℕ) → Some i ≡ foremost ids → On i ids
