@@ -1,20 +1,21 @@
-use Rattle.std.proofs.Common.{length, subst, rules}
-use Rattle.std.specs.Str.Parse.{ParsesUnsigned}
-use Rattle.std.proofs.lemmas.Str.Parse.{parse_digits}
-use Rattle.sizing.specs.Words.{decimal}
-use Rattle.sizing.proofs.Bytes.{own, digits_text, parsed}
+use Rattle.std.proofs.Common.{◌*◌, ◌+◌, ◌≤◌, ◌^◌, arith, rules}
+use Rattle.std.proofs.lemmas.List.Sums.{fold_more}
+use Rattle.sizing.specs.Words.{one_digit_more}
+use Rattle.sizing.proofs.Bytes.{no_less}
 use Rattle.sizing.proofs.reading.value.Goals as goal
 
-pub unwrap-requires : goal.unwrap-requires
-unwrap-requires c =
-    let utf8 = digits_text c.args.word.now c.requires.digits in
-    let cases = c.from_utf8.ensures.cases in
-    search rules
+pub returns-in_err-checked_mul : goal.returns-in_err-checked_mul
+returns-in_err-checked_mul c =
+    let more = fold_more one_digit_more 0 c.args.word.now c.loop-byte.byte-index 0 c.loop-byte-test.true in
+    let up = no_less 0 c.args.word.now (c.loop-byte.byte-index + 1) in
+    let is = c.loop-byte.invariant in
+    let over : 2 ^ 64 ≤ c.loop-byte.value * 10 = search rules in
+    rw c.from_residual.ensures (omega arith)
 
-pub returns : goal.returns
-returns c =
-    let word = c.args.word.now in
-    let text = rw c.unwrap.ensures at c.from_utf8.ensures.cases in
-    let reads = subst (λ bytes. ParsesUnsigned 64 10 bytes c.parse.result) text.0 c.parse.ensures.value.0 in
-    let number = parse_digits own 64 word c.parse.result reads c.requires.digits in
-    rw c.ok.ensures.value (parsed (decimal word) (length word) c.parse.result c.requires.some number)
+pub returns-in_err-value : goal.returns-in_err-value
+returns-in_err-value c =
+    let more = fold_more one_digit_more 0 c.args.word.now c.loop-byte.byte-index 0 c.loop-byte-test.true in
+    let up = no_less 0 c.args.word.now (c.loop-byte.byte-index + 1) in
+    let is = c.loop-byte.invariant in
+    let over : 2 ^ 64 ≤ c.loop-byte.value * 10 + c.saturating_sub.result = search rules in
+    rw c.from_residual-in_err-value.ensures (omega (arith, c.saturating_sub.ensures))
