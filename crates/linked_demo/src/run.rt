@@ -100,16 +100,16 @@ impl<T: Table + Drop> Run<T> {
         }
     }
 
+    // Each line goes out in one write.
     fn say(&self, rt: &HostRuntime) -> io::Result<()> {
+        let name = self.table.name();
+        let held = self.plain.len();
         let (slots, unmoved) = self.table.size();
-        print!(rt;
-            "{}: {} held, {slots} slots, {unmoved} unmoved",
-            self.table.name(),
-            self.plain.len()
-        )?;
-        if let Some(Order { sum, wrong }) = self.table.walk(&self.plain) {
-            print!(rt; ", order {sum} with {wrong} wrong")?;
+        match self.table.walk(&self.plain) {
+            Some(Order { sum, wrong }) => println!(rt;
+                "{name}: {held} held, {slots} slots, {unmoved} unmoved, order {sum} with {wrong} wrong"
+            ),
+            None => println!(rt; "{name}: {held} held, {slots} slots, {unmoved} unmoved"),
         }
-        println!(rt; "")
     }
 }
