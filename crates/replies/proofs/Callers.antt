@@ -1,5 +1,6 @@
 -- What a caller of the writer cites: room for every reply that the table can give, and a reply made up of its lines.
-use Rattle.std.proofs.Common.{◌≡◌, ◌<◌, ◌≤◌, Bool, List, [], ◌∷◌, ◌++◌, length, take, drop, sym, ap, ◌∙◌, subst, arith}
+use Rattle.std.proofs.Common.{◌≡◌, is_some, unwrap_or, ℕ, ◌<◌, ◌≤◌, Bool, true, false, Option, List, [], ◌∷◌, ◌++◌, length, take, drop, sym, ap, ◌∙◌, subst, arith}
+use Rattle.std.specs.Bool.{then_some}
 use Rattle.std.specs.List.{flat_map, AllByRecursion}
 use Rattle.std.proofs.lemmas.List.{take-append-drop, flat_map_more}
 use Rattle.replies.specs.declared.output.Writer.{Writer}
@@ -31,6 +32,15 @@ pub room_end : (numbered : Bool) (xs : List Shown) {u v : Writer} → length xs 
 room_end numbered xs {u} {v} few fair start p =
     let a = values_short numbered xs fair in
     omega (arith, start.empty, start.large, p.count, p.size)
+
+-- the lines of a record as `Writer::value` is given it: with its cas number just where there is one
+abbrev pub given_lines : Shown → Option ℕ → List ℕ
+given_lines s cas = value_lines (is_some cas) (record { key = s.key; flags = s.flags; block = s.block; cas = unwrap_or cas 0 })
+
+-- these are its lines in a get or a gets, where the number is given for gets
+pub as_given : (numbered : Bool) (s : Shown) (cas : Option ℕ) → cas ≡ then_some numbered s.cas → given_lines s cas ≡ value_lines numbered s
+as_given true s cas e = ap (given_lines s) e
+as_given false s cas e = ap (given_lines s) e
 
 -- no record is written yet
 pub values_none : (numbered : Bool) (u : Writer) → Wrote (flat_map (value_lines numbered) []) u u

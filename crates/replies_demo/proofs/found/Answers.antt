@@ -1,13 +1,12 @@
-use Rattle.std.proofs.Common.{◌≡◌, is_some, unwrap_or, ℕ, ◌<◌, ◌≤◌, Bool, true, false, Option, List, [], map, length, get_or, take, sym, ap, subst, arith, rules}
+use Rattle.std.proofs.Common.{◌≡◌, ℕ, ◌<◌, ◌≤◌, List, [], map, length, get_or, take, sym, ap, subst, arith, rules}
 use Rattle.std.specs.List.{flat_map, AllByRecursion}
-use Rattle.std.specs.Bool.{then_some}
 use Rattle.std.proofs.lemmas.List.{length-map, length-take, map_more, take-map, take_all, get_or-map}
 use Rattle.std.proofs.ByRecursion.{All-get_or, All-take}
 use Rattle.replies.specs.Reply.{Shown, Values}
 use Rattle.replies.specs.Render.{value_lines}
 use Rattle.replies.specs.Growth.{Room, Wrote}
 use Rattle.replies.specs.Fair.{FairShown}
-use Rattle.replies.proofs.Callers.{Fresh, room_value, room_end, values_none, values_more, values_all, replied}
+use Rattle.replies.proofs.Callers.{Fresh, room_value, room_end, as_given, values_none, values_more, values_all, replied}
 use Rattle.replies.proofs.Fits.{every_reply_fits}
 use Rattle.replies_demo.specs.declared.Item.{Item}
 use Rattle.replies_demo.specs.Items.{shown_of}
@@ -34,14 +33,6 @@ item_fair items i h fair =
 front_few : (items : List Item) (i : ℕ) → i ≤ length items → length (map shown_of (take i items)) ≡ i
 front_few items i h = omega (arith, length-map (take i items) shown_of, length-take i items)
 
--- the lines of a record whose number is given to the writer just where numbers are written
-abbrev lines_of : Shown → Option ℕ → List ℕ
-lines_of s o = value_lines (is_some o) (record { key = s.key; flags = s.flags; block = s.block; cas = unwrap_or o 0 })
-
-as_given : (numbered : Bool) (s : Shown) (o : Option ℕ) → o ≡ then_some numbered s.cas → value_lines numbered s ≡ lines_of s o
-as_given true s o e = ap (lines_of s) (sym e)
-as_given false s o e = ap (lines_of s) (sym e)
-
 pub loop-item-init : goal.loop-item-init
 loop-item-init c = values_none c.args.numbered c.new-writer.result
 
@@ -52,7 +43,7 @@ loop-item-preserved c =
     let W : List Shown → Type 0 = λ xs. Wrote (flat_map (value_lines c.args.numbered) xs) c.new-writer.result c.value.new.self in
     let item = shown_of (get_or items i blank) in
     let given = as_given c.args.numbered item c.then_some-cas.result c.then_some-cas.ensures in
-    let one : Wrote (value_lines c.args.numbered item) c.loop-item.writer c.value.new.self = subst (λ bs. Wrote bs c.loop-item.writer c.value.new.self) (sym given) c.value.ensures in
+    let one : Wrote (value_lines c.args.numbered item) c.loop-item.writer c.value.new.self = subst (λ bs. Wrote bs c.loop-item.writer c.value.new.self) given c.value.ensures in
     subst W (sym (map_more shown_of items i blank c.loop-item-test.true))
     (values_more c.args.numbered (map shown_of (take i items)) item c.loop-item.invariant one)
 
@@ -64,7 +55,7 @@ value-requires c =
     let fair = c.requires.fair.1 in
     let item = shown_of (get_or items i blank) in
     let given = as_given c.args.numbered item c.then_some-cas.result c.then_some-cas.ensures in
-    subst (λ bs. Room bs c.loop-item.writer) given
+    subst (λ bs. Room bs c.loop-item.writer) (sym given)
     (room_value c.args.numbered (map shown_of (take i items)) item
     (omega (arith, c.requires.fair.0, length-map items shown_of, front_few items i c.loop-item.auto.item-index-end))
     (front_fair items i fair) (item_fair items i c.loop-item-test.true fair) fresh c.loop-item.invariant)
