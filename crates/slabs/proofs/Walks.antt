@@ -1,12 +1,13 @@
 -- A walk from the back of a list: what lies behind has been looked at.
 use Rattle.std.proofs.Common.{◌≡◌, ℕ, ◌+◌, ◌<◌, ◌≤◌, Bool, true, false, cond, List, [], ◌∷◌, ◌++◌, map, length, get_or, Some, None, Option, unwrap_or, sym, refl, ap, ◌∙◌, subst, arith, length-append}
 use lib.ListN.{length-map}
-use Rattle.std.proofs.lemmas.List.{append_assoc}
+use Rattle.std.proofs.lemmas.List.{append_assoc, append-nil, nil_from_length}
 use Rattle.std.proofs.lemmas.Bool.{cond-true, cond-false}
 use Rattle.recency.specs.Numbers.{none, count}
 use Rattle.recency.specs.Lists.{rearmost, last, Prevs}
 use Rattle.recency.specs.declared.RecencyList.{RecencyList}
 use Rattle.recency.proofs.Counts.{count_append}
+use Rattle.recency.proofs.Steps.{in_range}
 use Rattle.chained.specs.Chains.{Chain}
 use Rattle.chained.proofs.Walks.{steps, steps_chain, chain_short}
 use Rattle.slabs.specs.declared.row.Row.{Row}
@@ -83,6 +84,32 @@ module _ (says : Row → Bool → Type 0) (rows : List Row) (xs : List ℕ) wher
         at_is = e;
         none_behind = λ picks same. cond-false (picks i) (i ∷ keep picks w.behind) (keep picks w.behind) (sym (same i false fail)) ∙ w.none_behind picks same;
       }
+
+-- the walk, where n rows lie behind it: it needs no sound slab, and ends by its count
+abbrev pub Counted : (Row → Bool → Type 0) → List Row → List ℕ → ℕ → Option ℕ → Type 0
+Counted says rows xs n at = (w : Walked xs at (NonePicked says rows)) × (length w.behind ≡ n)
+
+module _ (says : Row → Bool → Type 0) (rows : List Row) (xs : List ℕ) where
+  pub counted_starts : (at : Option ℕ) → at ≡ rearmost xs → Counted says rows xs 0 at
+  counted_starts at e = (record { ahead = xs; behind = []; parts = sym (append-nil xs); at_is = e; none_behind = λ picks same. refl }, refl)
+
+  pub counted_all : (n : ℕ) (at : Option ℕ) → length xs ≡ n → Counted says rows xs n at → (picks : ℕ → Bool) → Picks says rows picks → None ≡ rearmost (keep picks xs)
+  counted_all n at long w picks same =
+      let l = length-append w.0.ahead w.0.behind in
+      let e = ap length w.0.parts in
+      let f = w.1 in
+      let gone = nil_from_length w.0.ahead (omega arith) in
+      sym (ap (λ ys. rearmost (keep picks ys)) (w.0.parts ∙ ap (λ ys. ys ++ w.0.behind) gone) ∙ ap rearmost (w.0.none_behind picks same))
+
+  module _ (list : RecencyList) (read : RowsRead list rows xs) (n i : ℕ) (w : Counted says rows xs n (Some i)) where
+    pub counted_within : i < length rows
+    counted_within = let k = in_range (map (λ row. row.next) rows) xs none i read.nexts (walk_in says rows xs i w.0) in omega (arith, length-map rows (λ row. row.next))
+
+    pub counted_goes : (at : Option ℕ) → says (get_or rows i blank) false → ((a b : List ℕ) → RowsRead list rows (a ++ i ∷ b) → at ≡ rearmost a) → Counted says rows xs (n + 1) at
+    unfolding walk_goes
+    counted_goes at fail ahead =
+        let a = (rear_parts w.0.ahead i w.0.at_is).0 in
+        (walk_goes says rows xs i at fail w.0 (ahead a w.0.behind (subst (λ ys. RowsRead list rows ys) (walk_parts says rows xs i w.0) read)), (let f = w.1 in omega arith))
 
 -- the row at hand holds a record of the class
 module _ (says : Row → Bool → Type 0) (s : Slab) (t : ∥ Sound s ∥₁) (class i : ℕ) (w : (ls : ℕ → List ℕ) → Lists s ls → Walked (ls (held_of class)) (Some i) (NonePicked says (rows_of s))) where

@@ -28,7 +28,7 @@ const PAGE: usize = plan::PAGE as usize;
 #[derive(Drop)]
 pub struct Slab {
     pub rows: Vec<Row>,
-    classes: Classes,
+    pub(crate) classes: Classes,
     // The class of each page; as many as `given` have one. Fixed memory: a page is given with nothing allocated. 0 stands for
     // none, as it does for the lists of rows, so that code and clauses have one number for the class of any page.
     owners: [u8; 256],

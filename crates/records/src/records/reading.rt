@@ -84,7 +84,7 @@ impl Records {
         ensures shown { (setup : Setup) (memory : List ℕ) (ks : List Class) → ShowsRecords setup self.now.slab memory ks → Numbered setup class → last (dead second) (class_at class ks).records ≡ option_map (λ i. record_at (layout self.now.slab) (rows_of self.now.slab) memory i) result }
     {
         self.slab
-            .rearmost_that(class, |row| is_dead(row.tag.expiry, second))
+            .rearmost_picked(class, |row| is_dead(row.tag.expiry, second))
     }
 
     /// How many pages there are.

@@ -14,8 +14,8 @@ pub returns : goal.returns
 returns c =
     let s = c.args.self.now.slab in
     let test : ℕ → Bool = λ i. dead_at c.args.second (get_or (rows_of s) i blank).tag.expiry in
-    let told = c.rearmost_that.ensures test (λ i b k. search rules) in
+    let told = c.rearmost_picked.ensures test (λ i b k. search rules) in
     record {
-      held = picked_held s c.args.self.now.sound c.args.class (λ ids. rearmost (keep test ids)) c.rearmost_that.result told (rearmost_that_on test);
-      shown = λ setup memory ks. picked_shown s c.args.self.now.sound c.args.class (λ ids. rearmost (keep test ids)) c.rearmost_that.result told (last (dead c.args.second)) setup memory ks (map_rear_that (dead c.args.second) (record_at (layout s) (rows_of s) memory));
+      held = picked_held s c.args.self.now.sound c.args.class (λ ids. rearmost (keep test ids)) c.rearmost_picked.result told (rearmost_that_on test);
+      shown = λ setup memory ks. picked_shown s c.args.self.now.sound c.args.class (λ ids. rearmost (keep test ids)) c.rearmost_picked.result told (last (dead c.args.second)) setup memory ks (map_rear_that (dead c.args.second) (record_at (layout s) (rows_of s) memory));
     }
