@@ -28,8 +28,8 @@ impl Slab {
         None
     }
 
-    /// The same of any slab: where its rows are in no order, the walk ends by the class's count or at a row that is not there.
-    /// None past the last class.
+    /// What `rearmost_picked` finds, of any slab: where its rows are in no order, the walk ends by the class's count or at a row
+    /// that is not there. None past the last class.
     pub fn rearmost_that<F: Fn(&Row) -> bool>(&self, class: usize, test: F) -> Option<u32>
         requires { F.IsAlwaysCallable test }
         ensures found { (class < 33) ⊎ ∥ Sound self.now ∥₁ → (picks : ℕ → Bool) → Picks (FnReturnsAt F.Fn test) (rows_of self.now) picks → (ls : ℕ → List ℕ) → Lists self.now ls → result ≡ rearmost (keep picks (ls (held_of class))) }
